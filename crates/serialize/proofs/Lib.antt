@@ -1,0 +1,5 @@
+pub mod Lists
+pub mod Le
+pub mod Words
+pub mod Search
+pub mod Loops
