@@ -3,3 +3,4 @@ pub mod Le
 pub mod Words
 pub mod Search
 pub mod Loops
+pub mod Determined

@@ -162,6 +162,17 @@ splice-whole l vs h =
     let z : 0 + length vs ≡ length l = omega arith in
     ap (λ (i : ℕ). vs ++ drop i l) z ∙ ap (λ (t : List ℕ). vs ++ t) (drop-length l) ∙ append-nil vs
 
+drop-zeros : (k n : ℕ) → drop k (zeros n) ≡ zeros (n - k)
+drop-zeros zero n = let e : n ≡ n - 0 = omega arith in ap zeros e
+drop-zeros (suc k) zero = let e : 0 ≡ 0 - suc k = omega arith in ap zeros e
+drop-zeros (suc k) (suc n) = let e : n - k ≡ suc n - suc k = omega arith in drop-zeros k n ∙ ap zeros e
+
+-- at the front of zeros: padded
+pub splice-zeros : (n : ℕ) (vs : List ℕ) → length vs ≤ n → splice (zeros n) 0 vs ≡ vs ++ zeros (n - length vs)
+unfolding splice
+splice-zeros n vs h =
+    ap (λ (i : ℕ). vs ++ drop i (zeros n)) (zero-add (length vs)) ∙ ap (λ (t : List ℕ). vs ++ t) (drop-zeros (length vs) n)
+
 -- what stands there, spliced in
 pub splice-part : (l : List ℕ) (at n : ℕ) → at + n ≤ length l → splice l at (part l at n) ≡ l
 unfolding splice

@@ -1,0 +1,4 @@
+pub mod Fewest
+pub mod Masks
+pub mod Sequence
+pub mod Determined
