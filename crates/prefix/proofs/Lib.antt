@@ -1,4 +1,4 @@
 pub mod Fewest
 pub mod Masks
-pub mod Sequence
+pub mod Wire
 pub mod Determined

@@ -4,7 +4,8 @@
 use Prim.Native.Nat.{ℕ, _+_, _*_, _/_, _%_, _^_, _≤_, _<_}
 use mathlib.Core.Path.{_≡_}
 use mathlib.Core.List.{List, _∷_}
-use lib.ListN.{getD}
+use mathlib.Core.Bool.{Bool, true, false}
+use lib.ListN.{length, getD}
 use lib.Dec.{ltb}
 use Rattle.serialize.specs.declared.Found.{Found}
 use Rattle.serialize.specs.declared.Found.the-variants.{At, Nothing}
@@ -12,6 +13,8 @@ use Rattle.serialize.specs.Search.{firstFrom}
 use Rattle.serialize.specs.Runs.{part}
 use Rattle.serialize.specs.Le.{ofLe, toLe}
 use Rattle.prefix.specs.declared.Prefix.{Prefix}
+use Rattle.prefix.specs.declared.Sequence.{Sequence}
+use Rattle.prefix.specs.declared.Sequence.the-variants.{Number, TooLong, Short}
 
 -- the place that a search found, or 9 where 0 to 8 were in vain
 abbrev pub placeOr9 : Found → ℕ
@@ -43,7 +46,24 @@ prefixOf b = says (b % 16) (b / 16)
 abbrev pub headBytes : ℕ → ℕ → List ℕ
 headBytes kind sequence = prefixByte kind (fewest sequence) ∷ toLe (fewest sequence) sequence
 
--- what a reader finds at index at of l: a prefix byte that says kind and count, and after it the bytes of the sequence
+abbrev pub pickSequence : Bool → Sequence → Sequence → Sequence
+pickSequence true a b = a
+pickSequence false a b = b
+
+-- what a reader makes of the count bytes from index at of l: any count from 0 to 8 is read, padded or not
+unfoldable pub sequenceAt : List ℕ → ℕ → ℕ → Sequence
+sequenceAt l at count =
+    pickSequence (ltb 8 count) TooLong
+    (pickSequence (ltb (length l) (at + count)) Short
+    (Number (ofLe (part l at count))))
+
+-- document 01's number for each answer: 0 for a sequence, 4 for a count over 8, 7 for a datagram that ends too soon
+abbrev pub refusalOf : Sequence → ℕ
+refusalOf (Number v) = 0
+refusalOf TooLong = 4
+refusalOf Short = 7
+
+-- a head stands at index at of l: a prefix byte that says kind and count, and after it the bytes of the sequence
 pub record Head (l : List ℕ) (at kind count sequence : ℕ) : Type 0 where
   pub said : prefixOf (getD l at 0) ≡ says kind count
-  pub follows : ofLe (part l (at + 1) count) ≡ sequence
+  pub follows : sequenceAt l (at + 1) count ≡ Number sequence

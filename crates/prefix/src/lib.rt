@@ -4,7 +4,7 @@ ghost use Prim.Native.Nat.{_+_, _≤_};
 ghost use lib.ListN.{length};
 ghost use Rattle.serialize.specs.Runs.{part, splice};
 ghost use Rattle.serialize.specs.Le.{ofLe, toLe};
-ghost use Rattle.prefix.specs.Head.{fewest, prefixByte, prefixOf};
+ghost use Rattle.prefix.specs.Head.{fewest, prefixByte, prefixOf, sequenceAt, refusalOf};
 ghost use Rattle.prefix.specs.Sealed.{additionalData, tokenAdditionalData, packetNonce};
 
 const NETCODE_VERSION_INFO: [u8; 13] = [78, 69, 84, 67, 79, 68, 69, 32, 49, 46, 48, 50, 0];
@@ -13,6 +13,26 @@ const NETCODE_VERSION_INFO: [u8; 13] = [78, 69, 84, 67, 79, 68, 69, 32, 49, 46, 
 pub struct Prefix {
     pub kind: u8,
     pub count: usize,
+}
+
+// What a reader makes of a sequence's bytes: the number; or a count that no sequence has; or a source that ends before them.
+pub enum Sequence {
+    Number(u64),
+    TooLong,
+    Short,
+}
+
+impl Sequence {
+    // Document 01's number for the answer; 0 is a sequence.
+    pub fn refusal(self) -> u8
+        ensures { λ r. ⌜ r ≡ refusalOf self ⌝ }
+    {
+        match self {
+            Sequence::Number(_) => 0,
+            Sequence::TooLong => 4,
+            Sequence::Short => 7,
+        }
+    }
 }
 
 // How many bytes the writer uses for a sequence: it walks the eight bytes from the top down to the first that is not zero.
@@ -57,14 +77,30 @@ pub fn write_sequence(out: &mut [u8], at: usize, seq: u64) -> usize
     len
 }
 
-// The sequence that len bytes of source from index at are, padded or not.
-pub fn read_sequence(source: &[u8], at: usize, len: usize) -> u64
+// The number that len bytes of source from index at are, padded or not.
+pub fn sequence_of(source: &[u8], at: usize, len: usize) -> u64
     requires { ⌜ (len ≤ 8) × (at + len ≤ length (now source)) ⌝ }
     ensures { λ r. ⌜ r ≡ ofLe (part (now (source .entry)) at len) ⌝ }
 {
     let mut seq_scratch = [0u8; 8];
     serialize::copy_bytes(&mut seq_scratch, 0, source, at, len);
     serialize::read_u64(&seq_scratch, 0)
+}
+
+// The sequence that a prefix byte's count says, of any source.
+pub fn read_sequence(source: &[u8], at: usize, len: usize) -> Sequence
+    ensures { λ r. ⌜ r ≡ sequenceAt (now (source .entry)) at len ⌝ }
+{
+    if len > 8 {
+        return Sequence::TooLong;
+    }
+    if at > source.len() {
+        return Sequence::Short;
+    }
+    if source.len() - at < len {
+        return Sequence::Short;
+    }
+    Sequence::Number(sequence_of(source, at, len))
 }
 
 // Additional data of a packet: version, protocol, prefix byte.

@@ -1,19 +1,19 @@
 -- Any two outcomes that satisfy a promise coincide (document 01, "What every promise pins down"): each promise is an equation for
 -- all that a call can change. `Post` is the function's `ensures`, of its arguments a, its result x and its slices at exit e.
 use mathlib.Core.Path.{_≡_, sym, _∙_}
-use Rattle.serialize.proofs.read_u16.Reads as read-u16
-use Rattle.serialize.proofs.read_u32.Reads as read-u32
-use Rattle.serialize.proofs.read_u64.Reads as read-u64
-use Rattle.serialize.proofs.same_bytes.Reads as same-bytes
-use Rattle.serialize.proofs.write_u16.Reads as write-u16
-use Rattle.serialize.proofs.write_u32.Reads as write-u32
-use Rattle.serialize.proofs.write_u64.Reads as write-u64
-use Rattle.serialize.proofs.copy_bytes.Reads as copy-bytes
-use Rattle.serialize.proofs.copy_words.Reads as copy-words
-use Rattle.serialize.proofs.zero_bytes.Reads as zero-bytes
-use Rattle.serialize.proofs.zero_words.Reads as zero-words
-use Rattle.serialize.proofs.pack_words.Reads as pack-words
-use Rattle.serialize.proofs.unpack_words.Reads as unpack-words
+use Rattle.serialize.proofs.number.read_u16.Reads as read-u16
+use Rattle.serialize.proofs.number.read_u32.Reads as read-u32
+use Rattle.serialize.proofs.number.read_u64.Reads as read-u64
+use Rattle.serialize.proofs.bytes.same_bytes.Reads as same-bytes
+use Rattle.serialize.proofs.number.write_u16.Reads as write-u16
+use Rattle.serialize.proofs.number.write_u32.Reads as write-u32
+use Rattle.serialize.proofs.number.write_u64.Reads as write-u64
+use Rattle.serialize.proofs.bytes.copy_bytes.Reads as copy-bytes
+use Rattle.serialize.proofs.words.copy_words.Reads as copy-words
+use Rattle.serialize.proofs.bytes.zero_bytes.Reads as zero-bytes
+use Rattle.serialize.proofs.words.zero_words.Reads as zero-words
+use Rattle.serialize.proofs.words.pack_words.Reads as pack-words
+use Rattle.serialize.proofs.words.unpack_words.Reads as unpack-words
 
 -- the one law
 pub coincide : {A : Type 0} {x y z : A} → x ≡ z → y ≡ z → x ≡ y

@@ -1,6 +1,6 @@
 pub mod Lists
 pub mod Le
-pub mod Words
+pub mod Packed
 pub mod Search
 pub mod Loops
 pub mod Determined

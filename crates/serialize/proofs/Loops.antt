@@ -10,7 +10,7 @@ use lib.Seq.{paste, paste-suc, take-length}
 use Rattle.serialize.specs.Runs.{part, splice, zeros}
 use Rattle.serialize.specs.Le.{ofLe, words}
 use Rattle.serialize.proofs.Lists.{length-part, getD-part}
-use Rattle.serialize.proofs.Words.{length-words, word-at}
+use Rattle.serialize.proofs.Packed.{length-words, word-at}
 
 -- r is d with the first i elements of s written from at, and v is the next one
 pub paste-turn : (d : List ℕ) (at : ℕ) (s r : List ℕ) (i v : ℕ) → r ≡ paste d at s i → v ≡ getD s i 0 → at + i < length d → i < length s

@@ -1,43 +1,38 @@
--- The bytes after the len that were copied are zeros, so they add nothing.
-use mathlib.Core.Path.{_≡_, ap, _∙_}
+-- Each way out is one of the answers of the definition.
+use mathlib.Core.Path.{sym, ap, _∙_}
 use native.Mathlib.Omega.{arith}
-use mathlib.Core.List.{List}
-use Prim.Native.Nat.{ℕ, _≤_}
-use lib.ListN.{length}
-use Rattle.serialize.specs.Runs.{part}
-use Rattle.serialize.specs.Le.{ofLe}
-use Rattle.serialize.proofs.Lists.{length-part}
-use Rattle.prefix.proofs.Sequence.{scratch-reads}
+use Rattle.prefix.specs.declared.Sequence.the-variants.{Number}
+use Rattle.prefix.proofs.Wire.{reads-number, reads-too-long, reads-short}
 use borrow.Author.Needs.{needs}
 use Rattle.prefix.proofs.read_sequence.Statement.{statement}
 use Rattle.prefix.proofs.read_sequence.Tie as tie
 
-slice-aggregate-copy-bytes : tie.Need-slice-aggregate-copy-bytes
-slice-aggregate-copy-bytes c = search needs
-
-copy-bytes-requires : tie.Need-copy-bytes-requires
-copy-bytes-requires c κs = search needs
-
-slice-aggregate-read-u64 : tie.Need-slice-aggregate-read-u64
-slice-aggregate-read-u64 c = search needs
-
-read-u64-requires : tie.Need-read-u64-requires
-read-u64-requires c κs = search needs
-
 returns : tie.Need-returns
 returns c =
-    let s = c .before .before .before .before .before .before in
-    let a = s .args in
-    let vs = part (a .source .now) (a .at) (a .len) in
-    let n : length vs ≤ 8 = omega (arith, s .pre, length-part (a .source .now) (a .at) (a .len) (s .pre .1)) in
-    c .read-u64 .ensures ∙ ap (λ (t : List ℕ). ofLe (part t 0 8)) (c .before .before .before .copy-bytes .ensures) ∙ scratch-reads vs n
+    let a = c .before .before .args in
+    sym (reads-too-long (a .source .now) (a .at) (a .len) (c .if1 .taken))
+
+returns-2 : tie.Need-returns-2
+returns-2 c =
+    let a = c .before .before .before .args in
+    sym (reads-short (a .source .now) (a .at) (a .len) (c .before .if1 .left) (omega arith))
+
+sub-if3 : tie.Need-sub-if3
+sub-if3 c = search needs
+
+returns-3 : tie.Need-returns-3
+returns-3 c =
+    let a = c .before .before .before .before .args in
+    sym (reads-short (a .source .now) (a .at) (a .len) (c .before .before .if1 .left) (omega arith))
+
+sequence-of-requires : tie.Need-sequence-of-requires
+sequence-of-requires c κs = search needs
+
+returns-4 : tie.Need-returns-4
+returns-4 c =
+    let a = c .before .before .before .before .before .args in
+    ap Number (c .sequence-of .ensures) ∙ sym (reads-number (a .source .now) (a .at) (a .len) (c .before .before .before .if1 .left) (omega arith))
 
 pub read-sequence-spec : {M : Type 1} → statement M
 read-sequence-spec =
-    tie.close
-    (tie.spec
-    slice-aggregate-copy-bytes
-    copy-bytes-requires
-    slice-aggregate-read-u64
-    read-u64-requires
-    returns)
+    tie.close (tie.spec returns returns-2 sub-if3 returns-3 sequence-of-requires returns-4)

@@ -1,7 +1,7 @@
 -- The first bytes of the eight are the sequence in that many bytes.
 use native.Mathlib.Omega.{arith}
 use Rattle.prefix.proofs.Fewest.{fewest-le}
-use Rattle.prefix.proofs.Sequence.{scratch-copied}
+use Rattle.prefix.proofs.Wire.{scratch-copied}
 use borrow.Author.Needs.{needs}
 use Rattle.prefix.proofs.write_sequence.Statement.{statement}
 use Rattle.prefix.proofs.write_sequence.Tie as tie

@@ -1,0 +1,17 @@
+-- Every starred figure holds: each side computes to the same list.
+use mathlib.Core.Path.{refl}
+use Rattle.serialize.specs.Search.{firstFrom, pickFound}
+use Rattle.serialize.specs.Le.{toLe}
+use Rattle.prefix.specs.Head.{fewest}
+use Rattle.prefix.specs.Sealed.{additionalData}
+use Rattle.figures.specs.Figures.{Figures}
+
+pub figures : Figures
+unfolding firstFrom pickFound toLe fewest additionalData
+figures = record {
+  keep-alive-0 = refl;
+  payload-255 = refl;
+  payload-256 = refl;
+  payload-last = refl;
+  additional-data = refl;
+}
