@@ -1,55 +1,67 @@
--- A turn and an end for every loop that writes a list into a slice from a place on, one element a turn: what is written
--- so far is a prefix of what is wanted.
-use mathlib.Core.Path.{_≡_, sym, ap, _∙_}
+-- A start, a turn and an end for every loop that writes a list into a slice from a place on, one element a turn: what is
+-- written so far is a prefix of what is wanted.
+use mathlib.Core.Path.{_≡_, refl, sym, ap, _∙_}
 use Prim.Native.Nat.{ℕ, _+_, _*_, _≤_, _<_}
 use native.Mathlib.Numerals.{add-one}
 use native.Mathlib.Omega.{arith}
 use mathlib.Core.List.{List, _++_}
-use lib.ListN.{length, take, drop, getD, set, length-replicate, getD-replicate}
-use lib.Seq.{paste, paste-suc, take-length}
+use lib.ListN.{length, take, drop, getD, set, length-set, length-replicate, getD-replicate}
+use lib.Seq.{paste, paste-zero, paste-suc, take-length}
 use Rattle.serialize.specs.Runs.{part, splice, zeros}
 use Rattle.serialize.specs.Le.{ofLe, words}
 use Rattle.serialize.proofs.Lists.{length-part, getD-part}
 use Rattle.serialize.proofs.Packed.{length-words, word-at}
 
--- r is d with the first i elements of s written from at, and v is the next one
-pub paste-turn : (d : List ℕ) (at : ℕ) (s r : List ℕ) (i v : ℕ) → r ≡ paste d at s i → v ≡ getD s i 0 → at + i < length d → i < length s
-    → set r (at + i) v ≡ paste d at s (i + 1)
-paste-turn d at s r i v p q h k =
-    ap (λ (l : List ℕ). set l (at + i) v) p ∙ ap (λ (w : ℕ). set (paste d at s i) (at + i) w) q ∙ paste-suc d at s i 0 h k ∙ ap (paste d at s) (sym (add-one i))
+-- the invariant: r is d with the first i of the n elements of s written from at
+abbrev pub Filled : List ℕ → ℕ → List ℕ → ℕ → List ℕ → ℕ → Type 0
+Filled d at s n r i = (i ≤ n) × (r ≡ paste d at s i) × (length r ≡ length d)
 
--- all of s is written
-pub paste-end : (d : List ℕ) (at : ℕ) (s r : List ℕ) (i : ℕ) → r ≡ paste d at s i → length s ≡ i → r ≡ splice d at s
-unfolding splice
-paste-end d at s r i p n =
-    p ∙ ap (λ (j : ℕ). paste d at s j) (sym n) ∙ ap (λ (l : List ℕ). take at d ++ l ++ drop (at + length s) d) (take-length s)
+-- ---- what is wanted is any list s of n elements
 
--- what is wanted is a part of another list
-module _ (d : List ℕ) (at : ℕ) (src : List ℕ) (from n : ℕ) (r : List ℕ) (i : ℕ) (p : r ≡ paste d at (part src from n) i) where
-  pub copy-turn : (at + n ≤ length d) × (from + n ≤ length src) → i < n → set r (at + i) (getD src (from + i) 0) ≡ paste d at (part src from n) (i + 1)
-  copy-turn h k =
-      let e : length (part src from n) ≡ n = length-part src from n (h .1) in
-      paste-turn d at (part src from n) r i (getD src (from + i) 0) p (sym (getD-part src from n i k)) (omega arith) (omega arith)
+module _ (d : List ℕ) (at : ℕ) (s : List ℕ) (n : ℕ) where
+  pub fill-start : Filled d at s n d 0
+  fill-start = (omega arith, paste-zero d at s, refl)
 
-  pub copy-end : (at + n ≤ length d) × (from + n ≤ length src) → i ≤ n → n ≤ i → r ≡ splice d at (part src from n)
-  copy-end h a b = paste-end d at (part src from n) r i p (omega (arith, length-part src from n (h .1)))
+  module _ (k : length s ≡ n) (r : List ℕ) (i : ℕ) (w : Filled d at s n r i) where
+    pub fill-turn : (v : ℕ) → v ≡ getD s i 0 → at + n ≤ length d → i < n → Filled d at s n (set r (at + i) v) (i + 1)
+    fill-turn v q f h = (
+      omega arith,
+      ap (λ (l : List ℕ). set l (at + i) v) (w .1)
+          ∙ ap (λ (x : ℕ). set (paste d at s i) (at + i) x) q
+          ∙ paste-suc d at s i 0 (omega arith) (omega arith)
+          ∙ ap (paste d at s) (sym (add-one i)),
+      length-set r (at + i) v ∙ w .2,
+    )
 
--- what is wanted is zeros
-module _ (d : List ℕ) (at n : ℕ) (r : List ℕ) (i : ℕ) (p : r ≡ paste d at (zeros n) i) where
-  wide : length (zeros n) ≡ n
-  wide = length-replicate n 0
+    pub fill-end : n ≤ i → r ≡ splice d at s
+    unfolding splice
+    fill-end h =
+        let e : i ≡ length s = omega (arith, w .0) in
+        w .1 ∙ ap (paste d at s) e ∙ ap (λ (l : List ℕ). take at d ++ l ++ drop (at + length s) d) (take-length s)
 
-  pub zero-turn : at + n ≤ length d → i < n → set r (at + i) 0 ≡ paste d at (zeros n) (i + 1)
-  zero-turn h k = paste-turn d at (zeros n) r i 0 p (sym (getD-replicate n i 0 0 k)) (omega arith) (omega (arith, wide))
+-- ---- a part of another list
 
-  pub zero-end : i ≤ n → n ≤ i → r ≡ splice d at (zeros n)
-  zero-end a b = paste-end d at (zeros n) r i p (omega (arith, wide))
+module _ (d : List ℕ) (at : ℕ) (src : List ℕ) (from n : ℕ) (f : (at + n ≤ length d) × (from + n ≤ length src)) (r : List ℕ) (i : ℕ) (w : Filled d at (part src from n) n r i) where
+  pub copy-turn : i < n → Filled d at (part src from n) n (set r (at + i) (getD src (from + i) 0)) (i + 1)
+  copy-turn h = fill-turn d at (part src from n) n (length-part src from n (f .1)) r i w _ (sym (getD-part src from n i h)) (f .0) h
 
--- what is wanted is words of bytes
-module _ (d : List ℕ) (at : ℕ) (src : List ℕ) (from n : ℕ) (r : List ℕ) (i : ℕ) (p : r ≡ paste d at (words n (drop from src)) i) where
-  pub pack-turn : (v : ℕ) → v ≡ ofLe (part src (from + i * 8) 8) → at + n ≤ length d → i < n → set r (at + i) v ≡ paste d at (words n (drop from src)) (i + 1)
-  pack-turn v q h k =
-      paste-turn d at (words n (drop from src)) r i v p (q ∙ sym (word-at n i from src k)) (omega arith) (omega (arith, length-words n (drop from src)))
+  pub copy-end : n ≤ i → r ≡ splice d at (part src from n)
+  copy-end h = fill-end d at (part src from n) n (length-part src from n (f .1)) r i w h
 
-  pub pack-end : i ≤ n → n ≤ i → r ≡ splice d at (words n (drop from src))
-  pack-end a b = paste-end d at (words n (drop from src)) r i p (omega (arith, length-words n (drop from src)))
+-- ---- zeros
+
+module _ (d : List ℕ) (at n : ℕ) (r : List ℕ) (i : ℕ) (w : Filled d at (zeros n) n r i) where
+  pub zero-turn : at + n ≤ length d → i < n → Filled d at (zeros n) n (set r (at + i) 0) (i + 1)
+  zero-turn f h = fill-turn d at (zeros n) n (length-replicate n 0) r i w 0 (sym (getD-replicate n i 0 0 h)) f h
+
+  pub zero-end : n ≤ i → r ≡ splice d at (zeros n)
+  zero-end h = fill-end d at (zeros n) n (length-replicate n 0) r i w h
+
+-- ---- words of bytes
+
+module _ (d : List ℕ) (at : ℕ) (src : List ℕ) (from n : ℕ) (r : List ℕ) (i : ℕ) (w : Filled d at (words n (drop from src)) n r i) where
+  pub pack-turn : (v : ℕ) → v ≡ ofLe (part src (from + i * 8) 8) → at + n ≤ length d → i < n → Filled d at (words n (drop from src)) n (set r (at + i) v) (i + 1)
+  pack-turn v q f h = fill-turn d at (words n (drop from src)) n (length-words n (drop from src)) r i w v (q ∙ sym (word-at n i from src h)) f h
+
+  pub pack-end : n ≤ i → r ≡ splice d at (words n (drop from src))
+  pack-end h = fill-end d at (words n (drop from src)) n (length-words n (drop from src)) r i w h

@@ -1,24 +1,19 @@
 -- After k turns k zeros are written.
-use mathlib.Core.Path.{_≡_, refl}
-use Prim.Native.Nat.{_-_, _≤_}
-use lib.ListN.{length, length-set}
-use lib.Seq.{paste, paste-zero}
+use Prim.Native.Nat.{_-_}
 use Rattle.serialize.specs.Runs.{zeros}
-use Rattle.serialize.proofs.Loops.{zero-turn, zero-end}
+use Rattle.serialize.proofs.Loops.{Filled, fill-start, zero-turn, zero-end}
 use borrow.Author.Needs.{needs}
 use Rattle.serialize.proofs.bytes.zero_bytes.Statement.{statement}
 use Rattle.serialize.proofs.bytes.zero_bytes.Tie as tie
 
 abbrev Inv-loop : tie.InvT-loop
-Inv-loop dst₀ at n k₀ dst k = (k ≤ n) × (dst ≡ paste dst₀ at (zeros n) k) × (length dst ≡ length dst₀)
+Inv-loop dst₀ at n k₀ dst k = Filled dst₀ at (zeros n) n dst k
 
 abbrev μ-loop : tie.MeasureT-loop
 μ-loop dst₀ at n k₀ dst k = n - k
 
 loop-holds : tie.Need-loop-holds Inv-loop μ-loop
-loop-holds c =
-    let a = c .args in
-    (search needs, paste-zero (a .dst .now) (a .at) (zeros (a .n)), refl)
+loop-holds c = fill-start (c .args .dst .now) (c .args .at) (zeros (c .args .n)) (c .args .n)
 
 add-dst : tie.Need-add-dst Inv-loop μ-loop
 add-dst c = search needs
@@ -35,10 +30,8 @@ loop-less c = search needs
 loop-again : tie.Need-loop-again Inv-loop μ-loop
 loop-again c =
     let s = c .before .before in
-    let a = s .args in
     let l = c .before .loop in
-    let turn = zero-turn (a .dst .now) (a .at) (a .n) (l .dst) (l .k) (l .inv .1) (s .pre) (c .loop-test .taken) in
-    (search needs, turn, simp length-set (l .inv .2))
+    zero-turn (s .args .dst .now) (s .args .at) (s .args .n) (l .dst) (l .k) (l .inv) (s .pre) (c .loop-test .taken)
 
 same-length : tie.Need-same-length Inv-loop μ-loop
 same-length c = c .before .loop .inv .2
@@ -47,7 +40,7 @@ returns : tie.Need-returns Inv-loop μ-loop
 returns c =
     let a = c .before .before .args in
     let l = c .before .loop in
-    zero-end (a .dst .now) (a .at) (a .n) (l .dst) (l .k) (l .inv .1) (l .inv .0) (c .loop-test .left)
+    zero-end (a .dst .now) (a .at) (a .n) (l .dst) (l .k) (l .inv) (c .loop-test .left)
 
 pub zero-bytes-spec : {M : Type 1} → statement M
 zero-bytes-spec =

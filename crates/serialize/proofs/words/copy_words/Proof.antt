@@ -1,16 +1,13 @@
 -- After i turns the first i elements of the part are written.
-use mathlib.Core.Path.{_≡_, refl}
-use Prim.Native.Nat.{_-_, _≤_}
-use lib.ListN.{length, length-set}
-use lib.Seq.{paste, paste-zero}
+use Prim.Native.Nat.{_-_}
 use Rattle.serialize.specs.Runs.{part}
-use Rattle.serialize.proofs.Loops.{copy-turn, copy-end}
+use Rattle.serialize.proofs.Loops.{Filled, fill-start, copy-turn, copy-end}
 use borrow.Author.Needs.{needs}
 use Rattle.serialize.proofs.words.copy_words.Statement.{statement}
 use Rattle.serialize.proofs.words.copy_words.Tie as tie
 
 abbrev Inv-loop : tie.InvT-loop
-Inv-loop dst₀ at src from n i₀ dst i = (i ≤ n) × (dst ≡ paste dst₀ at (part src from n) i) × (length dst ≡ length dst₀)
+Inv-loop dst₀ at src from n i₀ dst i = Filled dst₀ at (part src from n) n dst i
 
 abbrev μ-loop : tie.MeasureT-loop
 μ-loop dst₀ at src from n i₀ dst i = n - i
@@ -18,7 +15,7 @@ abbrev μ-loop : tie.MeasureT-loop
 loop-holds : tie.Need-loop-holds Inv-loop μ-loop
 loop-holds c =
     let a = c .args in
-    (search needs, paste-zero (a .dst .now) (a .at) (part (a .src .now) (a .from) (a .n)), refl)
+    fill-start (a .dst .now) (a .at) (part (a .src .now) (a .from) (a .n)) (a .n)
 
 add-dst : tie.Need-add-dst Inv-loop μ-loop
 add-dst c = search needs
@@ -49,8 +46,7 @@ loop-again c =
     let s = c .before .before .before in
     let a = s .args in
     let l = c .before .before .loop in
-    let turn = copy-turn (a .dst .now) (a .at) (a .src .now) (a .from) (a .n) (l .dst) (l .i) (l .inv .1) (s .pre) (c .before .loop-test .taken) in
-    (search needs, turn, simp length-set (l .inv .2))
+    copy-turn (a .dst .now) (a .at) (a .src .now) (a .from) (a .n) (s .pre) (l .dst) (l .i) (l .inv) (c .before .loop-test .taken)
 
 same-length : tie.Need-same-length Inv-loop μ-loop
 same-length c = c .before .loop .inv .2
@@ -60,7 +56,7 @@ returns c =
     let s = c .before .before in
     let a = s .args in
     let l = c .before .loop in
-    copy-end (a .dst .now) (a .at) (a .src .now) (a .from) (a .n) (l .dst) (l .i) (l .inv .1) (s .pre) (l .inv .0) (c .loop-test .left)
+    copy-end (a .dst .now) (a .at) (a .src .now) (a .from) (a .n) (s .pre) (l .dst) (l .i) (l .inv) (c .loop-test .left)
 
 pub copy-words-spec : {M : Type 1} → statement M
 copy-words-spec =

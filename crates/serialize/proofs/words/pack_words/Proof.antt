@@ -1,16 +1,14 @@
 -- After i turns the first i words are written.
-use mathlib.Core.Path.{_≡_, refl}
-use Prim.Native.Nat.{_-_, _≤_}
-use lib.ListN.{length, drop, length-set}
-use lib.Seq.{paste, paste-zero}
+use Prim.Native.Nat.{_-_}
+use lib.ListN.{drop}
 use Rattle.serialize.specs.Le.{words}
-use Rattle.serialize.proofs.Loops.{pack-turn, pack-end}
+use Rattle.serialize.proofs.Loops.{Filled, fill-start, pack-turn, pack-end}
 use borrow.Author.Needs.{needs}
 use Rattle.serialize.proofs.words.pack_words.Statement.{statement}
 use Rattle.serialize.proofs.words.pack_words.Tie as tie
 
 abbrev Inv-loop : tie.InvT-loop
-Inv-loop dst₀ at src from n i₀ dst i = (i ≤ n) × (dst ≡ paste dst₀ at (words n (drop from src)) i) × (length dst ≡ length dst₀)
+Inv-loop dst₀ at src from n i₀ dst i = Filled dst₀ at (words n (drop from src)) n dst i
 
 abbrev μ-loop : tie.MeasureT-loop
 μ-loop dst₀ at src from n i₀ dst i = n - i
@@ -18,7 +16,7 @@ abbrev μ-loop : tie.MeasureT-loop
 loop-holds : tie.Need-loop-holds Inv-loop μ-loop
 loop-holds c =
     let a = c .before .before .args in
-    (search needs, paste-zero (a .dst .now) (a .at) (words (a .n) (drop (a .from) (a .src .now))), refl)
+    fill-start (a .dst .now) (a .at) (words (a .n) (drop (a .from) (a .src .now))) (a .n)
 
 mul-read-u64 : tie.Need-mul-read-u64 Inv-loop μ-loop
 mul-read-u64 c = search needs
@@ -49,9 +47,7 @@ loop-again c =
     let s = c .before .before .before .before .before in
     let a = s .args in
     let l = c .before .before .loop in
-    let turn =
-    pack-turn (a .dst .now) (a .at) (a .src .now) (a .from) (a .n) (l .dst) (l .i) (l .inv .1) _ (c .read-u64 .ensures) (s .pre .0) (c .before .loop-test .taken) in
-    (search needs, turn, simp length-set (l .inv .2))
+    pack-turn (a .dst .now) (a .at) (a .src .now) (a .from) (a .n) (l .dst) (l .i) (l .inv) _ (c .read-u64 .ensures) (s .pre .0) (c .before .loop-test .taken)
 
 same-length : tie.Need-same-length Inv-loop μ-loop
 same-length c = c .before .loop .inv .2
@@ -60,7 +56,7 @@ returns : tie.Need-returns Inv-loop μ-loop
 returns c =
     let a = c .before .before .before .before .args in
     let l = c .before .loop in
-    pack-end (a .dst .now) (a .at) (a .src .now) (a .from) (a .n) (l .dst) (l .i) (l .inv .1) (l .inv .0) (c .loop-test .left)
+    pack-end (a .dst .now) (a .at) (a .src .now) (a .from) (a .n) (l .dst) (l .i) (l .inv) (c .loop-test .left)
 
 pub pack-words-spec : {M : Type 1} → statement M
 pack-words-spec =
