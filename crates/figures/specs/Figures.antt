@@ -1,8 +1,8 @@
 -- The figures that document 01, "Figures on both sides", marks with a star, in its order, over the definitions. A figure joins
 -- when its part lands: keep-alive's body and the disconnect's lengths with the packets, the four on the window with the window.
 use mathlib.Core.Path.{_≡_}
-use Prim.Native.Nat.{ℕ, _-_, _^_}
-use mathlib.Core.List.{List, [], _∷_}
+use Prim.Native.Nat.{_-_, _^_}
+use mathlib.Core.List.{[], _∷_}
 use Rattle.prefix.specs.Head.{fewest, prefixByte, headBytes}
 use Rattle.prefix.specs.Sealed.{additionalData}
 

@@ -1,5 +1,5 @@
 -- `fewest` is what it says: the search over 0 to 8 finds the least n with v < 256 ^ n, and powers of 256 only grow.
-use mathlib.Core.Path.{_≡_, refl, sym}
+use mathlib.Core.Path.{_≡_, refl}
 use Prim.Native.Nat.{ℕ, suc, _^_, _≤_, _<_}
 use native.Mathlib.Nat.{pow-le-pow-right, lt-of-not-le, le-antisymm}
 use native.Mathlib.Omega.{arith}

@@ -1,10 +1,10 @@
 -- The laws of little-endian numbers, over any width: a number's low bytes, and then the bytes of what is left of it.
 use mathlib.Core.Path.{_≡_, refl, sym, ap, _∙_}
 use Prim.Native.Nat.{ℕ, zero, suc, _+_, _*_, _/_, _%_, _^_, _≤_, _<_, _-_}
-use native.Mathlib.Nat.{add-zero, zero-add, suc-add, pow-suc, pow-zero, not-suc-le-zero, add-comm, mul-assoc, mul-comm, one-mul, div-div-eq-div-mul, div-add-mod'}
+use native.Mathlib.Nat.{add-zero, zero-add, suc-add, pow-suc, pow-zero, add-comm, mul-assoc, mul-comm, one-mul, div-div-eq-div-mul, div-add-mod'}
 use native.Mathlib.Omega.{arith}
-use mathlib.Core.List.{List, [], _∷_, _++_, append-nil}
-use lib.ListN.{length, take, drop, getD, length-append, length-replicate}
+use mathlib.Core.List.{List, [], _∷_, _++_}
+use lib.ListN.{length, take, getD}
 use lib.Seq.{take-at, drop-cons}
 use Rattle.serialize.specs.Runs.{part, splice, zeros, Below}
 use Rattle.serialize.specs.Le.{ofLe, toLe}

@@ -9,8 +9,8 @@ use native.Mathlib.Omega.{arith}
 use mathlib.Core.List.{List, [], _∷_, _++_, append-assoc, append-nil}
 use borrow.Rule.Slice.PartMut.{putMid}
 use borrow.Author.Tests.{eq-eqb, eqb-true}
-use lib.ListN.{length, take, drop, getD, set, replicate, length-append, length-take, length-drop, length-set, length-replicate, take-append-drop, List·getD-append}
-use lib.Seq.{take-append-le, drop-append-le, drop-append-add, take-add, take-all, take-take, take-nil, drop-drop, drop-length, getD-take, getD-drop, getD-append-add, getD-set-same, getD-set-other, set-comm, set-set, set-append-left, length-take-le, paste-zero, ext-getD, sets, sets-eq, length-sets}
+use lib.ListN.{length, take, drop, getD, set, length-append, length-take, length-drop, length-set, take-append-drop}
+use lib.Seq.{take-append-le, drop-append-le, drop-append-add, take-add, take-all, take-take, take-nil, drop-drop, drop-length, getD-take, getD-drop, getD-set-same, getD-set-other, set-comm, set-set, set-append-left, length-take-le, paste-zero, ext-getD, sets, sets-eq, length-sets}
 use lib.Dec.{eqb}
 use Rattle.serialize.specs.Runs.{part, splice, zeros, both, alike, Below}
 
@@ -247,6 +247,14 @@ splice-over l at us vs h k = two-sets l at us at vs (omega arith) k ∙ sets-ove
 pub splice-comm : (l : List ℕ) (a : ℕ) (us : List ℕ) (b : ℕ) (vs : List ℕ) → a + length us ≤ length l → b + length vs ≤ length l
     → ((o q : ℕ) → o < length us → q < length vs → b + q ≡ a + o → ⊥) → splice (splice l a us) b vs ≡ splice (splice l b vs) a us
 splice-comm l a us b vs h k d = two-sets l a us b vs h k ∙ sets-comm us vs l a b d ∙ sym (two-sets l b vs a us k h)
+
+-- and a store elsewhere
+pub set-splice-comm : (l : List ℕ) (at : ℕ) (vs : List ℕ) (j v : ℕ) → at + length vs ≤ length l → ((q : ℕ) → q < length vs → at + q ≡ j → ⊥)
+    → set (splice l at vs) j v ≡ splice (set l j v) at vs
+set-splice-comm l at vs j v h d =
+    ap (λ (t : List ℕ). set t j v) (splice-sets l at vs h)
+    ∙ sym (sets-set vs l at j v d)
+    ∙ sym (splice-sets (set l j v) at vs (omega (arith, length-set l j v)))
 
 -- ---- within it
 

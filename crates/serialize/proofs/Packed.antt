@@ -1,15 +1,15 @@
 -- The laws of bytes packed eight to a word, by recursion on the words.
 use mathlib.Core.Path.{_≡_, refl, sym, ap, _∙_}
 use Prim.Native.Nat.{ℕ, zero, suc, _+_, _*_, _^_, _≤_, _<_}
-use native.Mathlib.Nat.{add-zero, not-suc-le-zero}
+use native.Mathlib.Nat.{not-suc-le-zero}
 use native.Mathlib.Numerals.{add-one}
 use native.Mathlib.Omega.{arith}
 use mathlib.Core.List.{List, [], _∷_, _++_, append-assoc, append-nil}
-use lib.ListN.{length, take, drop, getD, set, length-append, length-drop, length-take}
-use lib.Seq.{take-at, drop-at, take-suc, take-add, take-all, drop-drop, getD-drop, getD-take, length-take-le}
+use lib.ListN.{length, take, drop, getD, set, length-append, length-drop}
+use lib.Seq.{take-at, drop-at, take-suc, take-add, drop-drop, getD-drop, length-take-le}
 use Rattle.serialize.specs.Runs.{part, splice, Below}
 use Rattle.serialize.specs.Le.{ofLe, toLe, words, bytesOf}
-use Rattle.serialize.proofs.Lists.{splice-then, splice-left, splice-right, splice-whole, below-take}
+use Rattle.serialize.proofs.Lists.{part-splice-same, splice-then, splice-left, splice-right, splice-whole, below-take, below-drop}
 use Rattle.serialize.proofs.Le.{length-toLe, ofLe-toLe, toLe-ofLe}
 
 -- ---- lengths and elements
@@ -60,6 +60,15 @@ words-bytesOf (w ∷ ws) b =
     ∙ ap (λ (x : ℕ). x ∷ words (length ws) (drop 8 (toLe 8 w ++ bytesOf ws))) (ofLe-toLe 8 w (b 0))
     ∙ ap (λ (l : List ℕ). w ∷ words (length ws) l) (drop-at (toLe 8 w) (bytesOf ws) 8 (length-toLe 8 w))
     ∙ ap (λ (l : List ℕ). w ∷ l) (words-bytesOf ws (λ i. b (suc i)))
+
+-- bytes that were packed into a table, unpacked from it
+pub packed-unpacks : (t : List ℕ) (at : ℕ) (src : List ℕ) (from n : ℕ) → Below 256 src → at + n ≤ length t → from + n * 8 ≤ length src
+    → bytesOf (part (splice t at (words n (drop from src))) at n) ≡ part src from (n * 8)
+packed-unpacks t at src from n b h f =
+    let k : length (words n (drop from src)) ≡ n = length-words n (drop from src) in
+    ap (λ (m : ℕ). bytesOf (part (splice t at (words n (drop from src))) at m)) (sym k)
+    ∙ ap bytesOf (part-splice-same t at (words n (drop from src)) (omega arith))
+    ∙ bytesOf-words n (drop from src) (below-drop from src b) (simp length-drop (omega arith))
 
 -- ---- one word stored is eight bytes spliced in
 

@@ -6,7 +6,6 @@ use Prim.Native.Nat.{ℕ, zero, suc, _+_, _-_, _≤_, _<_}
 use native.Mathlib.Nat.{eq-or-lt-of-le}
 use native.Mathlib.Omega.{arith}
 use native.Mathlib.Numerals.{add-one}
-use Rattle.serialize.specs.declared.Found.{Found}
 use Rattle.serialize.specs.declared.Found.the-variants.{At, Nothing}
 use Rattle.serialize.specs.Search.{firstFrom, pickFound}
 

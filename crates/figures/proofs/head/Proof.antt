@@ -1,6 +1,6 @@
 -- A head has at most nine bytes.
 use Prim.Native.Nat.{_+_, _≤_}
-use mathlib.Core.Path.{_≡_, sym}
+use mathlib.Core.Path.{sym}
 use native.Mathlib.Omega.{arith}
 use lib.ListN.{length}
 use lib.Seq.{length-take-le}

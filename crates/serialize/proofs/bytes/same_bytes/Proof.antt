@@ -3,7 +3,7 @@ use mathlib.Core.Path.{_≡_, sym, ap, _∙_}
 use Prim.Native.Nat.{ℕ, _+_, _-_, _≤_, _<_}
 use native.Mathlib.Omega.{arith}
 use borrow.Author.Count.{below-more}
-use lib.ListN.{length, getD}
+use lib.ListN.{getD}
 use Rattle.serialize.specs.Runs.{part, alike}
 use Rattle.serialize.proofs.Lists.{getD-part, part-ext, alike-refl, alike-differ}
 use borrow.Author.Needs.{needs}
