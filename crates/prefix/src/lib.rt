@@ -7,7 +7,7 @@ ghost use Rattle.serialize.specs.Le.{ofLe, toLe};
 ghost use Rattle.prefix.specs.Head.{fewest, prefixByte, prefixOf, sequenceAt, refusalOf};
 ghost use Rattle.prefix.specs.Sealed.{additionalData, tokenAdditionalData, packetNonce};
 
-const NETCODE_VERSION_INFO: [u8; 13] = [78, 69, 84, 67, 79, 68, 69, 32, 49, 46, 48, 50, 0];
+pub const NETCODE_VERSION_INFO: [u8; 13] = *b"NETCODE 1.02\0";
 
 // What a prefix byte says: the packet's type, and how many sequence bytes follow.
 pub struct Prefix {

@@ -11,10 +11,10 @@ use Rattle.serialize.specs.Search.{firstFrom, pickFound}
 
 -- ---- a loop's start, its hit, its miss and its end
 
-module _ (p : ℕ → Bool) (i n : ℕ) where
-  pub scan-start : firstFrom p 0 n ≡ firstFrom p 0 (n - 0)
-  scan-start = let e : n ≡ n - 0 = omega arith in ap (firstFrom p 0) e
+pub scan-start : (p : ℕ → Bool) (n : ℕ) → firstFrom p 0 n ≡ firstFrom p 0 (n - 0)
+scan-start p n = let e : n ≡ n - 0 = omega arith in ap (firstFrom p 0) e
 
+module _ (p : ℕ → Bool) (i n : ℕ) where
   step : (b : Bool) → i < n → p i ≡ b → firstFrom p i (n - i) ≡ pickFound b (At i) (firstFrom p (suc i) (n - suc i))
   unfolding firstFrom
   step b h t =
