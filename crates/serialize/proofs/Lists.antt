@@ -2,10 +2,12 @@
 -- after the other, and two lists being equal where their elements are.
 use mathlib.Core.Path.{_≡_, refl, sym, ap, _∙_}
 use mathlib.Core.Bool.{Bool, true, false}
-use Prim.Native.Nat.{ℕ, zero, suc, _+_, _-_, _≤_, _<_}
+use Prim.Native.Nat.{ℕ, zero, suc, _+_, _-_, _^_, _≤_, _<_}
 use native.Mathlib.Nat.{add-zero, zero-add, add-suc, suc-add, not-suc-le-zero}
 use native.Mathlib.Numerals.{add-one}
 use native.Mathlib.Omega.{arith}
+use mir.Syntax.{Width}
+use mir.Val.{Fits, bits}
 use mathlib.Core.List.{List, [], _∷_, _++_, append-assoc, append-nil}
 use borrow.Rule.Slice.PartMut.{putMid}
 use borrow.Author.Tests.{eq-eqb, eqb-true}
@@ -60,7 +62,13 @@ part-ext l m a b n f g h =
     let s : i < n = omega arith in
     getD-part l a n i s ∙ h i s ∙ sym (getD-part m b n i s))
 
--- ---- bounds of the elements pass to parts
+-- ---- bounds of the elements
+
+-- what the checker knows of a slice's elements, c .slice-known .given or c .shared-slice-known .given
+pub known-below : {w : Width} (l : List ℕ) → ((i : ℕ) → Fits w (getD l i 0)) → Below (2 ^ bits w) l
+known-below l h i = h i .fits
+
+-- they pass to parts
 
 pub below-take : {b : ℕ} (n : ℕ) (l : List ℕ) → Below b l → Below b (take n l)
 below-take zero l h i = omega (arith, h 0)
