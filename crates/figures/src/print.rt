@@ -1,5 +1,9 @@
 // A line for each figure.
+ghost use mathlib.Core.Path.{_≡_};
 ghost use Prim.Native.Nat.{_≤_, _<_};
+ghost use lib.Dec.{eqb};
+ghost use Rattle.serialize.specs.Runs.{alike};
+ghost use Rattle.figures.specs.Verdict.{bit};
 use libc::STDOUT_FILENO;
 
 // The digit of n, in hexadecimal.
@@ -22,8 +26,9 @@ fn hex(s: &[u8]) {
     }
 }
 
+// 1 with the word for it where a figure holds, 0 where not. The bound is for sums.
 fn verdict(holds: bool) -> u32
-    ensures { λ r. ⌜ r ≤ 1 ⌝ }
+    ensures { λ r. ⌜ (r ≡ bit holds) × (r ≤ 1) ⌝ }
 {
     if holds {
         io::write_all(STDOUT_FILENO, b"  holds\n");
@@ -36,7 +41,7 @@ fn verdict(holds: bool) -> u32
 
 // 1 where the bytes that came out are those that are wanted, 0 where not.
 pub fn bytes(name: &[u8], got: &[u8], want: &[u8]) -> u32
-    ensures { λ r. ⌜ r ≤ 1 ⌝ }
+    ensures { λ r. ⌜ (r ≡ bit (alike (now (got .entry)) (now (want .entry)))) × (r ≤ 1) ⌝ }
 {
     io::write_all(STDOUT_FILENO, name);
     hex(got);
@@ -49,7 +54,7 @@ pub fn bytes(name: &[u8], got: &[u8], want: &[u8]) -> u32
 
 // The same for a number.
 pub fn number(name: &[u8], got: u64, want: u64) -> u32
-    ensures { λ r. ⌜ r ≤ 1 ⌝ }
+    ensures { λ r. ⌜ (r ≡ bit (eqb got want)) × (r ≤ 1) ⌝ }
 {
     io::write_all(STDOUT_FILENO, name);
     io::write_all(STDOUT_FILENO, b" ");
@@ -59,7 +64,7 @@ pub fn number(name: &[u8], got: u64, want: u64) -> u32
 
 // A number was wanted, and the answer is a refusal.
 pub fn refused(name: &[u8]) -> u32
-    ensures { λ r. ⌜ r ≤ 1 ⌝ }
+    ensures { λ r. ⌜ (r ≡ 0) × (r ≤ 1) ⌝ }
 {
     io::write_all(STDOUT_FILENO, name);
     io::write_all(STDOUT_FILENO, b" refused");

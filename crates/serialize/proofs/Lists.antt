@@ -355,6 +355,10 @@ alike-true (x ∷ xs) (y ∷ ys) h =
     let (p, q) = both-true (eqb x y) (alike xs ys) h in
     ap (λ (z : ℕ). z ∷ xs) (eqb-true x y p) ∙ ap (λ (t : List ℕ). y ∷ t) (alike-true xs ys q)
 
+-- no to lists of different lengths
+pub alike-lengths : (xs ys : List ℕ) → (length xs ≡ length ys → ⊥) → alike xs ys ≡ false
+alike-lengths xs ys d = not-true (alike xs ys) (λ h. d (ap length (alike-true xs ys h)))
+
 -- and no to lists that differ at one index
 pub alike-differ : (xs ys : List ℕ) (i : ℕ) → (getD xs i 0 ≡ getD ys i 0 → ⊥) → alike xs ys ≡ false
 alike-differ xs ys i d = not-true (alike xs ys) (λ h. d (ap (λ (t : List ℕ). getD t i 0) (alike-true xs ys h)))
