@@ -7,6 +7,7 @@ use native.Mathlib.Omega.{arith}
 use mathlib.Core.List.{List}
 use lib.ListN.{length, getD}
 use borrow.Author.Tests.{lt-ltb, le-ltb}
+use Rattle.serialize.specs.Choice.{pick}
 use Rattle.serialize.specs.Runs.{part, splice, zeros, Below}
 use Rattle.serialize.specs.Le.{ofLe, toLe}
 use Rattle.serialize.proofs.Lists.{part-whole, length-splice, splice-zeros, splice-whole, getD-splice-in, part-splice-in}
@@ -18,15 +19,15 @@ use Rattle.prefix.proofs.Fewest.{pow256-mono, fewest-means, fewest-le}
 -- ---- the reader's three answers, each exactly when
 
 pub reads-number : (l : List ℕ) (at count : ℕ) → count ≤ 8 → at + count ≤ length l → sequenceAt l at count ≡ Number (ofLe (part l at count))
-unfolding sequenceAt
+unfolding sequenceAt pick
 reads-number l at count h f = simp (le-ltb 8 count h, le-ltb (length l) (at + count) f)
 
 pub reads-too-long : (l : List ℕ) (at count : ℕ) → 8 < count → sequenceAt l at count ≡ TooLong
-unfolding sequenceAt
+unfolding sequenceAt pick
 reads-too-long l at count h = simp (lt-ltb 8 count h)
 
 pub reads-short : (l : List ℕ) (at count : ℕ) → count ≤ 8 → length l < at + count → sequenceAt l at count ≡ Short
-unfolding sequenceAt
+unfolding sequenceAt pick
 reads-short l at count h f = simp (le-ltb 8 count h, lt-ltb (length l) (at + count) f)
 
 -- ---- theorems

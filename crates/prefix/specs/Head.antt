@@ -4,11 +4,11 @@
 use Prim.Native.Nat.{ℕ, _+_, _*_, _/_, _%_, _^_, _≤_, _<_}
 use mathlib.Core.Path.{_≡_}
 use mathlib.Core.List.{List, _∷_}
-use mathlib.Core.Bool.{Bool, true, false}
 use lib.ListN.{length, getD}
 use lib.Dec.{ltb}
 use Rattle.serialize.specs.declared.Found.{Found}
 use Rattle.serialize.specs.declared.Found.the-variants.{At, Nothing}
+use Rattle.serialize.specs.Choice.{pick}
 use Rattle.serialize.specs.Search.{firstFrom}
 use Rattle.serialize.specs.Runs.{part}
 use Rattle.serialize.specs.Le.{ofLe, toLe}
@@ -46,15 +46,11 @@ prefixOf b = says (b % 16) (b / 16)
 abbrev pub headBytes : ℕ → ℕ → List ℕ
 headBytes kind sequence = prefixByte kind (fewest sequence) ∷ toLe (fewest sequence) sequence
 
-abbrev pub pickSequence : Bool → Sequence → Sequence → Sequence
-pickSequence true a b = a
-pickSequence false a b = b
-
 -- what a reader makes of the count bytes from index at of l: any count from 0 to 8 is read, padded or not
 unfoldable pub sequenceAt : List ℕ → ℕ → ℕ → Sequence
 sequenceAt l at count =
-    pickSequence (ltb 8 count) TooLong
-    (pickSequence (ltb (length l) (at + count)) Short
+    pick (ltb 8 count) TooLong
+    (pick (ltb (length l) (at + count)) Short
     (Number (ofLe (part l at count))))
 
 -- document 01's number for each answer: 0 for a sequence, 4 for a count over 8, 7 for a datagram that ends too soon

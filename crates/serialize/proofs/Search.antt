@@ -7,7 +7,9 @@ use native.Mathlib.Nat.{eq-or-lt-of-le}
 use native.Mathlib.Omega.{arith}
 use native.Mathlib.Numerals.{add-one}
 use Rattle.serialize.specs.declared.Found.the-variants.{At, Nothing}
-use Rattle.serialize.specs.Search.{firstFrom, pickFound}
+use Rattle.serialize.specs.Choice.{pick}
+use Rattle.serialize.specs.Search.{firstFrom}
+use Rattle.serialize.proofs.Choice.{by-test}
 
 -- ---- a loop's start, its hit, its miss and its end
 
@@ -15,18 +17,18 @@ pub scan-start : (p : ℕ → Bool) (n : ℕ) → firstFrom p 0 n ≡ firstFrom 
 scan-start p n = let e : n ≡ n - 0 = omega arith in ap (firstFrom p 0) e
 
 module _ (p : ℕ → Bool) (i n : ℕ) where
-  step : (b : Bool) → i < n → p i ≡ b → firstFrom p i (n - i) ≡ pickFound b (At i) (firstFrom p (suc i) (n - suc i))
+  step : (b : Bool) → i < n → p i ≡ b → firstFrom p i (n - i) ≡ pick b (At i) (firstFrom p (suc i) (n - suc i))
   unfolding firstFrom
   step b h t =
       let e : n - i ≡ suc (n - suc i) = omega arith in
-      ap (firstFrom p i) e ∙ ap (λ (u : Bool). pickFound u (At i) (firstFrom p (suc i) (n - suc i))) t
+      ap (firstFrom p i) e ∙ ap (λ (u : Bool). pick u (At i) (firstFrom p (suc i) (n - suc i))) t
 
   pub scan-hit : i < n → p i ≡ true → firstFrom p i (n - i) ≡ At i
-  unfolding pickFound
+  unfolding pick
   scan-hit h t = step true h t
 
   pub scan-miss : i < n → p i ≡ false → firstFrom p i (n - i) ≡ firstFrom p (i + 1) (n - (i + 1))
-  unfolding pickFound
+  unfolding pick
   scan-miss h t = rw add-one (step false h t)
 
   pub scan-end : n ≤ i → firstFrom p i (n - i) ≡ Nothing
@@ -42,25 +44,21 @@ pub record Lowest (p : ℕ → Bool) (i k j : ℕ) : Type 0 where
   pub holds : p j ≡ true
   pub none : (m : ℕ) → i ≤ m → m < j → p m ≡ false
 
-by-test : {A : Type 0} (b : Bool) → (b ≡ true → A) → (b ≡ false → A) → A
-by-test true f g = f refl
-by-test false f g = g refl
-
 -- what holds at i, and from suc i on, holds from i on
 from-next : (P : ℕ → Type 0) (i : ℕ) → P i → (m : ℕ) → (suc i ≤ m → P m) → i ≤ m → P m
 from-next P i here m next h = ⊎-elim (λ e. subst P e here) next (eq-or-lt-of-le h)
 
 pub found-lowest : (p : ℕ → Bool) (i k j : ℕ) → firstFrom p i k ≡ At j → Lowest p i k j
-unfolding firstFrom pickFound
+unfolding firstFrom pick
 found-lowest p i zero j h = let z : _≡_ {A = ℕ} 0 1 = cc in absurd (omega arith)
 found-lowest p i (suc k) j h =
     by-test (p i)
     (λ e.
-    let q : At i ≡ At j = sym (ap (λ (b : Bool). pickFound b (At i) (firstFrom p (suc i) k)) e) ∙ h in
+    let q : At i ≡ At j = sym (ap (λ (b : Bool). pick b (At i) (firstFrom p (suc i) k)) e) ∙ h in
     let r : i ≡ j = cc in
     record { from = omega arith; below = omega arith; holds = subst (λ (m : ℕ). p m ≡ true) r e; none = λ m a b. absurd (omega arith) })
     (λ e.
-    let q : firstFrom p (suc i) k ≡ At j = sym (ap (λ (b : Bool). pickFound b (At i) (firstFrom p (suc i) k)) e) ∙ h in
+    let q : firstFrom p (suc i) k ≡ At j = sym (ap (λ (b : Bool). pick b (At i) (firstFrom p (suc i) k)) e) ∙ h in
     let w = found-lowest p (suc i) k j q in
     record {
       from = omega (arith, w .from);
@@ -70,34 +68,34 @@ found-lowest p i (suc k) j h =
     })
 
 pub found-none : (p : ℕ → Bool) (i k : ℕ) → firstFrom p i k ≡ Nothing → (m : ℕ) → i ≤ m → m < i + k → p m ≡ false
-unfolding firstFrom pickFound
+unfolding firstFrom pick
 found-none p i zero h m a b = absurd (omega arith)
 found-none p i (suc k) h m a b =
     by-test (p i)
     (λ e.
-    let q : At i ≡ Nothing = sym (ap (λ (b : Bool). pickFound b (At i) (firstFrom p (suc i) k)) e) ∙ h in
+    let q : At i ≡ Nothing = sym (ap (λ (b : Bool). pick b (At i) (firstFrom p (suc i) k)) e) ∙ h in
     let z : _≡_ {A = ℕ} 0 1 = cc in
     absurd (omega arith))
     (λ e.
-    let q : firstFrom p (suc i) k ≡ Nothing = sym (ap (λ (b : Bool). pickFound b (At i) (firstFrom p (suc i) k)) e) ∙ h in
+    let q : firstFrom p (suc i) k ≡ Nothing = sym (ap (λ (b : Bool). pick b (At i) (firstFrom p (suc i) k)) e) ∙ h in
     from-next (λ (x : ℕ). p x ≡ false) i e m (λ c. found-none p (suc i) k q m c (omega arith)) a)
 
 pub none-found : (p : ℕ → Bool) (i k : ℕ) → ((m : ℕ) → i ≤ m → m < i + k → p m ≡ false) → firstFrom p i k ≡ Nothing
-unfolding firstFrom pickFound
+unfolding firstFrom pick
 none-found p i zero h = refl
 none-found p i (suc k) h =
-    ap (λ (b : Bool). pickFound b (At i) (firstFrom p (suc i) k)) (h i (omega arith) (omega arith))
+    ap (λ (b : Bool). pick b (At i) (firstFrom p (suc i) k)) (h i (omega arith) (omega arith))
     ∙ none-found p (suc i) k (λ m a b. h m (omega arith) (omega arith))
 
 pub lowest-found : (p : ℕ → Bool) (i k j : ℕ) → Lowest p i k j → firstFrom p i k ≡ At j
-unfolding firstFrom pickFound
+unfolding firstFrom pick
 lowest-found p i zero j w = absurd (omega (arith, w .from, w .below))
 lowest-found p i (suc k) j w =
     ⊎-elim
     (λ e.
-    ap (λ (b : Bool). pickFound b (At i) (firstFrom p (suc i) k)) (subst (λ (m : ℕ). p m ≡ true) (sym e) (w .holds)) ∙ ap At e)
+    ap (λ (b : Bool). pick b (At i) (firstFrom p (suc i) k)) (subst (λ (m : ℕ). p m ≡ true) (sym e) (w .holds)) ∙ ap At e)
     (λ l.
-    ap (λ (b : Bool). pickFound b (At i) (firstFrom p (suc i) k)) (w .none i (omega arith) l)
+    ap (λ (b : Bool). pick b (At i) (firstFrom p (suc i) k)) (w .none i (omega arith) l)
     ∙ lowest-found p (suc i) k j (record { from = l; below = omega (arith, w .below); holds = w .holds; none = λ m a b. w .none m (omega arith) b }))
     (eq-or-lt-of-le (w .from))
 
@@ -106,5 +104,5 @@ pub first-ext : (p q : ℕ → Bool) (i k : ℕ) → ((j : ℕ) → i ≤ j → 
 unfolding firstFrom
 first-ext p q i zero h = refl
 first-ext p q i (suc k) h =
-    ap (λ (b : Bool). pickFound b (At i) (firstFrom p (suc i) k)) (h i (omega arith) (omega arith))
-    ∙ ap (pickFound (q i) (At i)) (first-ext p q (suc i) k (λ j a b. h j (omega arith) (omega arith)))
+    ap (λ (b : Bool). pick b (At i) (firstFrom p (suc i) k)) (h i (omega arith) (omega arith))
+    ∙ ap (pick (q i) (At i)) (first-ext p q (suc i) k (λ j a b. h j (omega arith) (omega arith)))

@@ -1,3 +1,4 @@
+pub mod Choice
 pub mod Runs
 pub mod Le
 pub mod Search

@@ -1,0 +1,5 @@
+pub mod Ways
+pub mod Sound
+pub mod Exactly
+pub mod Histories
+pub mod Stored

@@ -1,0 +1,4 @@
+pub mod Replay
+pub mod Arrivals
+pub mod Stored
+pub mod Ours
