@@ -110,8 +110,83 @@ fn sealed() -> u32
     a + b + c
 }
 
+// What refuses a sequence, 0 for none.
+fn refused(
+    name: &[u8],
+    window: replay_protection::ReplayProtection,
+    sequence: u64,
+    want: u64,
+) -> u32
+    ensures { λ r. ⌜ r ≤ 1 ⌝ }
+{
+    print::number(name, window.refusal(sequence) as u64, want)
+}
+
+fn window() -> u32
+    ensures { λ r. ⌜ r ≤ 6 ⌝ }
+{
+    io::write_all(
+        STDOUT_FILENO,
+        b"the window: what refuses a sequence, 0 for none\n",
+    );
+    let fresh = replay_protection::ReplayProtection::new();
+    let at_300 = fresh.advance_sequence(300);
+    let a = refused(b"* after 300, sequence 44:", at_300, 44, 6);
+    let b = refused(b"* after 300, sequence 45:", at_300, 45, 0);
+    let at_0 = fresh.advance_sequence(0);
+    let c = refused(b"* after 0, sequence 256:", at_0, 256, 0);
+    let d = refused(
+        b"* after 0 and 256, sequence 0:",
+        at_0.advance_sequence(256),
+        0,
+        6,
+    );
+    let e = refused(
+        b"* fresh, sequence 2^64-257:",
+        fresh,
+        0xffff_ffff_ffff_feff,
+        0,
+    );
+    let f = refused(
+        b"* fresh, sequence 2^64-256:",
+        fresh,
+        0xffff_ffff_ffff_ff00,
+        5,
+    );
+    a + b + c + d + e + f
+}
+
+// The same window where it lies in a table, between words that are not its own.
+fn in_table() -> u32
+    ensures { λ r. ⌜ r ≤ 6 ⌝ }
+{
+    io::write_all(STDOUT_FILENO, b"the window, in a table\n");
+    let mut table = [7u64; 259];
+    replay_protection::store_window(&mut table, 1, replay_protection::ReplayProtection::new());
+    replay_protection::advance_at(&mut table, 1, 300);
+    let refused = replay_protection::refusal_at(&table, 1, 44) as u64;
+    let a = print::number(b"  after 300, sequence 44:", refused, 6);
+    let accepted = replay_protection::refusal_at(&table, 1, 45) as u64;
+    let b = print::number(b"  after 300, sequence 45:", accepted, 0);
+    replay_protection::advance_at(&mut table, 1, 44);
+    let loaded = replay_protection::load_window(&table, 1);
+    let c = print::number(
+        b"  after 300 and 44, the highest:",
+        loaded.most_recent_sequence,
+        300,
+    );
+    let d = print::number(
+        b"  after 300 and 44, place 44:",
+        loaded.received_packet[44],
+        300,
+    );
+    let e = print::number(b"  the word before it:", table[0], 7);
+    let f = print::number(b"  the word after it:", table[258], 7);
+    a + b + c + d + e + f
+}
+
 fn main() {
-    let held = heads() + reads() + sealed();
+    let held = heads() + reads() + sealed() + window() + in_table();
     io::print_decimal(STDOUT_FILENO, held as u64);
-    io::write_all(STDOUT_FILENO, b" of 17 figures hold\n");
+    io::write_all(STDOUT_FILENO, b" of 29 figures hold\n");
 }

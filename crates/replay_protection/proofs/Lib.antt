@@ -3,3 +3,5 @@ pub mod Sound
 pub mod Exactly
 pub mod Histories
 pub mod Stored
+pub mod Worked
+pub mod Determined

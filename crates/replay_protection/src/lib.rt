@@ -13,18 +13,18 @@ pub use table::refusal_at;
 pub use table::store_window;
 
 // The width: how many sequences the window spans.
-const NETCODE_REPLAY_BUFFER_SIZE: u64 = 256;
+pub const NETCODE_REPLAY_BUFFER_SIZE: usize = 256;
 
 // The mark of a place that holds no sequence.
 const EMPTY: u64 = 0xffff_ffff_ffff_ffff;
 
 // The last sequence that a window takes, 2^64 - 257: from the next on, refusal 5.
-const LAST: u64 = EMPTY - NETCODE_REPLAY_BUFFER_SIZE;
+const LAST: u64 = EMPTY - NETCODE_REPLAY_BUFFER_SIZE as u64;
 
 // The highest sequence accepted, and a place for each remainder, with the last sequence accepted there.
 pub struct ReplayProtection {
     pub most_recent_sequence: u64,
-    pub received_packet: [u64; NETCODE_REPLAY_BUFFER_SIZE as usize],
+    pub received_packet: [u64; NETCODE_REPLAY_BUFFER_SIZE],
 }
 
 // How far b is below a, and 0 where it is not: no sum that could pass 2^64.
@@ -44,14 +44,14 @@ fn larger(a: u64, b: u64) -> u64
 fn index(sequence: u64) -> usize
     ensures { λ r. ⌜ r ≡ sequence % width ⌝ }
 {
-    (sequence % NETCODE_REPLAY_BUFFER_SIZE) as usize
+    (sequence % NETCODE_REPLAY_BUFFER_SIZE as u64) as usize
 }
 
 // The sequence is 256 or more behind the highest.
 fn is_behind(most: u64, sequence: u64) -> bool
     ensures { λ r. ⌜ r ≡ behind width most sequence ⌝ }
 {
-    below(most, sequence) >= NETCODE_REPLAY_BUFFER_SIZE
+    below(most, sequence) >= NETCODE_REPLAY_BUFFER_SIZE as u64
 }
 
 // Its place holds it, or a later one.
@@ -93,7 +93,7 @@ impl ReplayProtection {
     {
         ReplayProtection {
             most_recent_sequence: 0,
-            received_packet: [EMPTY; NETCODE_REPLAY_BUFFER_SIZE as usize],
+            received_packet: [EMPTY; NETCODE_REPLAY_BUFFER_SIZE],
         }
     }
 

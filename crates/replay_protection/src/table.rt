@@ -6,14 +6,21 @@ ghost use lib.ListN.{length};
 ghost use Rattle.replay_protection.specs.Replay.{refusal, arrive};
 ghost use Rattle.replay_protection.specs.Stored.{windowAt, putWindow};
 ghost use Rattle.replay_protection.specs.Ours.{width, windowOf, protection};
+use crate::NETCODE_REPLAY_BUFFER_SIZE;
 use crate::ReplayProtection;
 
 pub fn load_window(t: &[u64], at: usize) -> ReplayProtection
     requires { ⌜ at + 1 + width ≤ length (now t) ⌝ }
     ensures { λ r. ⌜ r ≡ protection (windowAt width (now (t .entry)) at) ⌝ }
 {
-    let mut received_packet = [0u64; 256];
-    serialize::copy_words(&mut received_packet, 0, t, at + 1, 256);
+    let mut received_packet = [0u64; NETCODE_REPLAY_BUFFER_SIZE];
+    serialize::copy_words(
+        &mut received_packet,
+        0,
+        t,
+        at + 1,
+        NETCODE_REPLAY_BUFFER_SIZE,
+    );
     ReplayProtection {
         most_recent_sequence: t[at],
         received_packet,
@@ -25,7 +32,13 @@ pub fn store_window(t: &mut [u64], at: usize, window: ReplayProtection)
     ensures { λ _. ⌜ now (t .exit) ≡ putWindow (now (t .entry)) at (windowOf window) ⌝ }
 {
     t[at] = window.most_recent_sequence;
-    serialize::copy_words(t, at + 1, &window.received_packet, 0, 256);
+    serialize::copy_words(
+        t,
+        at + 1,
+        &window.received_packet,
+        0,
+        NETCODE_REPLAY_BUFFER_SIZE,
+    );
 }
 
 // `refusal` of the window at index at.
