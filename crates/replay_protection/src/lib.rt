@@ -117,13 +117,8 @@ impl ReplayProtection {
         ensures { λ r. ⌜ r ≡ protection (arrive width (windowOf self) sequence) ⌝ }
     {
         let place = index(sequence);
-        if refusal_by(
-            self.most_recent_sequence,
-            self.received_packet[place],
-            sequence,
-        )
-            != 0
-        {
+        let held = self.received_packet[place];
+        if refusal_by(self.most_recent_sequence, held, sequence) != 0 {
             return self;
         }
         self.most_recent_sequence = larger(self.most_recent_sequence, sequence);

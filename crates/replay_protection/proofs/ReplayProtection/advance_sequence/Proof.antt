@@ -9,11 +9,11 @@ use Rattle.replay_protection.proofs.ReplayProtection.advance_sequence.T
 index-requires : tie.Need-index-requires
 index-requires c κs = search needs
 
-mul-refusal-by : tie.Need-mul-refusal-by
-mul-refusal-by c = search needs
+mul-held : tie.Need-mul-held
+mul-held c = search needs
 
-element-copy-out-refusal-by : tie.Need-element-copy-out-refusal-by
-element-copy-out-refusal-by c = search needs
+element-copy-out-held : tie.Need-element-copy-out-held
+element-copy-out-held c = search needs
 
 refusal-by-requires : tie.Need-refusal-by-requires
 refusal-by-requires c κs = search needs
@@ -42,8 +42,8 @@ advance-sequence-spec =
     tie.close
     (tie.spec
     index-requires
-    mul-refusal-by
-    element-copy-out-refusal-by
+    mul-held
+    element-copy-out-held
     refusal-by-requires
     returns
     larger-requires
