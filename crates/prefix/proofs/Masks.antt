@@ -1,6 +1,6 @@
 -- A mask of one byte, above which a number is zero, finds that byte: the masked number is that byte times the mask's place.
 use mathlib.Core.Path.{_≡_, refl, sym, ap, _∙_}
-use Prim.Native.Nat.{ℕ, zero, suc, _+_, _-_, _*_, _/_, _%_, _^_, _≤_, _<_}
+use Prim.Native.Nat.{ℕ, zero, suc, _+_, _*_, _/_, _%_, _^_, _≤_, _<_}
 use native.Mathlib.Nat.{pow-suc, mul-comm, div-lt-iff-lt-mul, mul-div-cancel, zero-div, zero-mul, div-eq-of-lt, lt-of-not-le}
 use native.Mathlib.Omega.{arith}
 use lib.Bits.{bitAnd, and-high}

@@ -1,17 +1,17 @@
 -- What a window accepts and refuses, exactly, of any window that is sound for what it accepted: what the test refuses is spent,
 -- what it lets pass is new, and nothing is both.
-use mathlib.Core.Path.{_≡_, refl}
+use mathlib.Core.Path.{_≡_, refl, sym, _∙_}
 use mathlib.Core.Logic.{inl, inr, _↔_}
 use mathlib.Core.Bool.{Bool, true, false, false≢true}
 use mathlib.Core.List.{List, _∷_}
 use Prim.Native.Nat.{ℕ, _+_, _^_, _≤_, _<_}
-use native.Mathlib.Omega.{arith}
+use native.Mathlib.Omega.{arith, by-contra}
 use lib.Dec.{eqb}
 use borrow.Author.Tests.{leb-false}
 use Rattle.serialize.specs.Choice.{pick}
 use Rattle.replay_protection.specs.Replay.{Window, placed, refusalBy, refuses, refusal, accepts, advance, arrive}
 use Rattle.replay_protection.specs.Arrivals.{New, Spent}
-use Rattle.replay_protection.proofs.Ways.{refusal-below, refused-keeps}
+use Rattle.replay_protection.proofs.Ways.{refusal-over, refusal-below}
 use Rattle.replay_protection.proofs.Sound.{Sound, sound-advance, refused, passed}
 
 -- the number is 0 only by both tests
@@ -25,6 +25,15 @@ zero-number false false e = (refl, refl)
 pub accepts-true : (w : ℕ) (win : Window) (s : ℕ) → accepts w win s ≡ true → (s + w < 2 ^ 64) × (refuses w win s ≡ false)
 unfolding refusalBy
 accepts-true w win s e = let q = zero-number _ _ e in (leb-false (2 ^ 64) (s + w) (q .0), q .1)
+
+-- 5 is for 2^64 - w and up, whatever the window's words, and for nothing else
+pub five-exactly : (w : ℕ) (win : Window) (s : ℕ) → (refusal w win s ≡ 5) ↔ (2 ^ 64 ≤ s + w)
+unfolding pick
+five-exactly w win s = (λ e. by-contra (2 ^ 64) (s + w) (λ l. below (refuses w win s) (sym (refusal-below w (win .most) (placed w win s) s l) ∙ e)), refusal-over w (win .most) (placed w win s) s)
+  where
+    below : (b : Bool) → pick {A = ℕ} b 6 0 ≡ 5 → ⊥
+    below true e = omega arith
+    below false e = omega arith
 
 module _ {w : ℕ} (pos : 0 < w) {acc : List ℕ} {win : Window} (sound : Sound w acc win) (s : ℕ) where
   not-both : Spent w acc s → New w acc s → ⊥

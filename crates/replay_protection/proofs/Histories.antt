@@ -1,17 +1,17 @@
 -- The window's theorems, over any width from 1 on and any arrivals: after every arrival the window is sound for what it accepted,
 -- and what a sound window accepts is what is new.
-use mathlib.Core.Path.{_≡_, refl, sym, ap, _∙_}
+use mathlib.Core.Path.{_≡_, refl}
 use mathlib.Core.Logic.{⊎-elim, ∥∥₁-elim, ∥∥₁-map, _↔_}
 use mathlib.Core.HLevel.{⊥-prop}
 use mathlib.Core.Bool.{Bool, true, false}
 use mathlib.Core.List.{List, [], _∷_, _++_, List·Memᴰ as Member, List·Memᴰ·head as head, List·Memᴰ·tail as tail, List·Memᴰ·cases-cons as cases-cons, List·Memᴰ·not-nil as not-nil}
 use mathlib.Core.List.{List·Nodup as Nodup, List·Mem, Perm, Perm·mem-iff, perm-ext-iff-of-nodup}
-use Prim.Native.Nat.{ℕ, _+_, _^_, _≤_, _<_}
+use Prim.Native.Nat.{ℕ, _+_, _^_, _<_}
 use native.Mathlib.Decide.{ℕ-discrete}
 use Rattle.serialize.specs.Choice.{pick}
-use Rattle.replay_protection.specs.Replay.{Window, refusal, accepts, arrive}
+use Rattle.replay_protection.specs.Replay.{refusal, accepts}
 use Rattle.replay_protection.specs.Arrivals.{run, accepted, highest, New, Spent, InTime}
-use Rattle.replay_protection.proofs.Ways.{refusal-over, refused-keeps}
+use Rattle.replay_protection.proofs.Ways.{refused-keeps}
 use Rattle.replay_protection.proofs.Sound.{Sound, sound-fresh, sound-one}
 use Rattle.replay_protection.proofs.Exactly.{accepted-exactly, refused-exactly, sound-arrive}
 
@@ -59,6 +59,11 @@ module _ (w : ℕ) (pos : 0 < w) where
 
   pub accepted-once : (arrivals : List ℕ) → Nodup (accepted w arrivals)
   accepted-once arrivals = run-sound arrivals .once
+
+  -- an arrival that is not accepted leaves the window as it was, word for word
+  pub refused-same : (s : ℕ) (before : List ℕ) → accepts w (run w before) s ≡ false → run w (s ∷ before) ≡ run w before
+  unfolding run
+  refused-same s before e = refused-keeps w (run w before) s e
 
   -- only what arrived is accepted
   pub accepted-arrived : (arrivals : List ℕ) (t : ℕ) → Member t (accepted w arrivals) → Member t arrivals

@@ -8,9 +8,11 @@ use native.Mathlib.Nat.{add-zero, mod-lt}
 use native.Mathlib.Omega.{arith}
 use lib.ListN.{length, getD, set, length-set}
 use lib.Seq.{set-getD}
+use Rattle.serialize.specs.Choice.{pick}
 use Rattle.serialize.specs.Runs.{part, splice}
-use Rattle.serialize.proofs.Lists.{length-part, getD-part, part-set-other, part-whole, splice-cons, splice-part, set-in-splice, length-splice, getD-splice-in, part-splice-in, part-splice-other}
-use Rattle.replay_protection.specs.Replay.{Window, window, placed, refusalBy, refusal, advance, arrive}
+use Rattle.serialize.proofs.Choice.{by-test}
+use Rattle.serialize.proofs.Lists.{length-part, getD-part, part-set-other, part-whole, splice-cons, splice-part, set-in-splice, length-splice, part-ext, getD-splice-in, part-splice-in, part-splice-other}
+use Rattle.replay_protection.specs.Replay.{Window, window, placed, refusalBy, refusal, accepts, advance, arrive}
 use Rattle.replay_protection.specs.Stored.{windowAt, putWindow}
 use Rattle.replay_protection.proofs.Ways.{arrive-refused, arrive-accepted}
 
@@ -84,3 +86,27 @@ module _ (t : List ℕ) (at : ℕ) (win : Window) (fits : at + 1 + length (win .
   pub put-other : (b n : ℕ) → b + n ≤ length t → ((o q : ℕ) → o < n → q < 1 + length (win .ring) → at + q ≡ b + o → ⊥) → part (putWindow t at win) b n ≡ part t b n
   unfolding putWindow
   put-other b n h d = part-splice-other t at (win .most ∷ win .ring) b n (omega arith) h (λ o q i j. d o q i (omega arith))
+
+-- an arrival keeps the number of places
+length-arrive : (w : ℕ) (win : Window) (s : ℕ) → length (arrive w win s .ring) ≡ length (win .ring)
+unfolding arrive advance pick
+length-arrive w win s = by-test (accepts w win s) (λ e. simp (e, length-set)) (λ e. simp e)
+
+-- so after an arrival in place the table's window is the one that arrived by value
+pub arrived-loads : (w : ℕ) (t : List ℕ) (at s : ℕ) → at + 1 + w ≤ length t → windowAt w (putWindow t at (arrive w (windowAt w t at) s)) at ≡ arrive w (windowAt w t at) s
+unfolding windowAt
+arrived-loads w t at s fits =
+    let win : Window = arrive w (windowAt w t at) s in
+    let n : length (win .ring) ≡ w = length-arrive w (windowAt w t at) s ∙ length-part t (at + 1) w fits in
+    ap (λ (k : ℕ). windowAt k (putWindow t at win) at) (sym n) ∙ put-loads t at win (omega arith)
+
+-- a window in a table is fixed by its own words
+pub same-words : (w : ℕ) (t u : List ℕ) (at : ℕ) → at + 1 + w ≤ length t → at + 1 + w ≤ length u → ((i : ℕ) → i < 1 + w → getD t (at + i) 0 ≡ getD u (at + i) 0)
+    → windowAt w t at ≡ windowAt w u at
+unfolding windowAt
+same-words w t u at f g same =
+    ap₂ window
+    (simp add-zero at (same 0 (omega arith)))
+    (part-ext t u (at + 1) (at + 1) w f g (λ i h.
+    let e : at + 1 + i ≡ at + (1 + i) = omega arith in
+    ap (λ (k : ℕ). getD t k 0) e ∙ same (1 + i) (omega arith) ∙ ap (λ (k : ℕ). getD u k 0) (sym e)))
