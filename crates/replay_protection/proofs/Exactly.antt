@@ -1,4 +1,4 @@
--- What a window accepts and refuses, exactly, of any window that is sound for what it accepted: what the test refuses is spent,
+-- What a window accepts and refuses, exactly, of any window that is sound for what it accepted: what the test refuses is past,
 -- what it lets pass is new, and nothing is both.
 use mathlib.Core.Path.{_≡_, refl, sym, _∙_}
 use mathlib.Core.Logic.{inl, inr, _↔_}
@@ -10,7 +10,7 @@ use lib.Dec.{eqb}
 use borrow.Author.Tests.{leb-false}
 use Rattle.serialize.specs.Choice.{pick}
 use Rattle.replay_protection.specs.Replay.{Window, placed, refusalBy, refuses, refusal, accepts, advance, arrive}
-use Rattle.replay_protection.specs.Arrivals.{New, Spent}
+use Rattle.replay_protection.specs.Arrivals.{New, Past}
 use Rattle.replay_protection.proofs.Ways.{refusal-over, refusal-below}
 use Rattle.replay_protection.proofs.Sound.{Sound, sound-advance, refused, passed}
 
@@ -36,7 +36,7 @@ five-exactly w win s = (λ e. by-contra (2 ^ 64) (s + w) (λ l. below (refuses w
     below false e = omega arith
 
 module _ {w : ℕ} (pos : 0 < w) {acc : List ℕ} {win : Window} (sound : Sound w acc win) (s : ℕ) where
-  not-both : Spent w acc s → New w acc s → ⊥
+  not-both : Past w acc s → New w acc s → ⊥
   not-both (inl m) n = n .0 m
   not-both (inr h) n = omega arith
 
@@ -50,11 +50,11 @@ module _ {w : ℕ} (pos : 0 < w) {acc : List ℕ} {win : Window} (sound : Sound 
       go n false e = refl
 
   -- 6 is for what was accepted before, or whose sum with w is at most the highest, and for nothing else
-  pub refused-exactly : s + w < 2 ^ 64 → (refusal w win s ≡ 6) ↔ Spent w acc s
+  pub refused-exactly : s + w < 2 ^ 64 → (refusal w win s ≡ 6) ↔ Past w acc s
   unfolding pick
   refused-exactly h = rw (refusal-below w (win .most) (placed w win s) s h) (go (refuses w win s) refl)
     where
-      go : (b : Bool) → refuses w win s ≡ b → (pick {A = ℕ} b 6 0 ≡ 6) ↔ Spent w acc s
+      go : (b : Bool) → refuses w win s ≡ b → (pick {A = ℕ} b 6 0 ≡ 6) ↔ Past w acc s
       go true e = (λ q. refused pos sound s e, λ o. refl)
       go false e = (λ q. absurd (omega arith), λ o. absurd (not-both o (passed pos sound s e)))
 

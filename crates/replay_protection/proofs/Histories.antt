@@ -10,7 +10,7 @@ use Prim.Native.Nat.{ℕ, _+_, _^_, _<_}
 use native.Mathlib.Decide.{ℕ-discrete}
 use Rattle.serialize.specs.Choice.{pick}
 use Rattle.replay_protection.specs.Replay.{refusal, accepts}
-use Rattle.replay_protection.specs.Arrivals.{run, accepted, highest, New, Spent, InTime}
+use Rattle.replay_protection.specs.Arrivals.{run, accepted, highest, New, Past, InTime}
 use Rattle.replay_protection.proofs.Ways.{refused-keeps}
 use Rattle.replay_protection.proofs.Sound.{Sound, sound-fresh, sound-one}
 use Rattle.replay_protection.proofs.Exactly.{accepted-exactly, refused-exactly, sound-arrive}
@@ -52,7 +52,7 @@ module _ (w : ℕ) (pos : 0 < w) where
   exactly-when arrivals s h = let q = accepted-exactly pos (run-sound arrivals) s in (λ e. q .0 e .1, λ n. q .1 (h, n))
 
   -- it is refused as 6 exactly when it was accepted or its sum with w is at most the highest: document 01, "The window"
-  pub six-exactly-when : (arrivals : List ℕ) (s : ℕ) → s + w < 2 ^ 64 → (refusal w (run w arrivals) s ≡ 6) ↔ Spent w (accepted w arrivals) s
+  pub six-exactly-when : (arrivals : List ℕ) (s : ℕ) → s + w < 2 ^ 64 → (refusal w (run w arrivals) s ≡ 6) ↔ Past w (accepted w arrivals) s
   six-exactly-when arrivals s h = refused-exactly pos (run-sound arrivals) s h
 
   -- ---- 2. once

@@ -13,7 +13,7 @@ use lib.ListN.{length, getD, set, length-set, length-replicate, getD-replicate}
 use lib.Seq.{getD-set-same, getD-set-other, ext-getD}
 use borrow.Author.Tests.{leb-true, leb-false, eqb-true, eqb-false}
 use Rattle.replay_protection.specs.Replay.{Window, EMPTY, fresh, placed, behind, repeated, spent, refuses, advance}
-use Rattle.replay_protection.specs.Arrivals.{highest, New, Spent}
+use Rattle.replay_protection.specs.Arrivals.{highest, New, Past}
 
 -- ---- remainders
 
@@ -42,13 +42,13 @@ any-false false true c e = (refl, inl refl)
 any-false false false c e = (refl, inr e)
 
 -- what the test refuses is w or more behind, or its place holds it or a later one
-pub test-true : (w : ℕ) (win : Window) (s : ℕ) → refuses w win s ≡ true → (s + w ≤ win .most) ⊎ ((placed w win s ≢ EMPTY) × (s ≤ placed w win s))
+test-true : (w : ℕ) (win : Window) (s : ℕ) → refuses w win s ≡ true → (s + w ≤ win .most) ⊎ ((placed w win s ≢ EMPTY) × (s ≤ placed w win s))
 unfolding spent behind repeated
 test-true w win s e =
     ⊎-map (leb-true (s + w) (win .most)) (λ p. (eqb-false (placed w win s) EMPTY (p .0), leb-true s (placed w win s) (p .1))) (any-true _ _ _ e)
 
 -- what it lets pass is neither
-pub test-false : (w : ℕ) (win : Window) (s : ℕ) → refuses w win s ≡ false → (win .most < s + w) × ((placed w win s ≡ EMPTY) ⊎ (placed w win s < s))
+test-false : (w : ℕ) (win : Window) (s : ℕ) → refuses w win s ≡ false → (win .most < s + w) × ((placed w win s ≡ EMPTY) ⊎ (placed w win s < s))
 unfolding spent behind repeated
 test-false w win s e =
     let q = any-false _ _ _ e in
@@ -70,7 +70,7 @@ pub record Sound (w : ℕ) (acc : List ℕ) (win : Window) : Type 0 where
   pub once : Nodup acc
 
 -- each of some sequences is at most their highest
-pub le-highest : (acc : List ℕ) (t : ℕ) → Member t acc → t ≤ highest acc
+le-highest : (acc : List ℕ) (t : ℕ) → Member t acc → t ≤ highest acc
 unfolding highest
 le-highest (x ∷ acc) t (head e) = omega arith
 le-highest (x ∷ acc) t (tail m) = omega (arith, le-highest acc t m)
@@ -90,15 +90,15 @@ module _ {w : ℕ} (pos : 0 < w) {acc : List ℕ} {win : Window} (sound : Sound 
   here : Holds w acc (s % w) (placed w win s)
   here = sound .place (s % w) (mod-lt s pos)
 
-  -- what the test refuses is spent
-  pub refused : refuses w win s ≡ true → Spent w acc s
+  -- what the test refuses is past
+  pub refused : refuses w win s ≡ true → Past w acc s
   refused e = ⊎-elim (λ (a : s + w ≤ win .most). inr (omega (arith, sound .most))) (λ p. held (p .0) (p .1) here) (test-true w win s e)
     where
-      near-or-old : {v : ℕ} → Member v acc → v % w ≡ s % w → s ≤ v → Dec (s + w ≤ highest acc) → Spent w acc s
+      near-or-old : {v : ℕ} → Member v acc → v % w ≡ s % w → s ≤ v → Dec (s + w ≤ highest acc) → Past w acc s
       near-or-old m q k (yes h) = inr h
       near-or-old {v} m q k (no h) = inl (cast (near w s v k (omega (arith, le-highest acc v m)) (sym q)) m)
 
-      held : {v : ℕ} → v ≢ EMPTY → s ≤ v → Holds w acc (s % w) v → Spent w acc s
+      held : {v : ℕ} → v ≢ EMPTY → s ≤ v → Holds w acc (s % w) v → Past w acc s
       held n k (none q f) = absurd (n q)
       held n k (largest m q f) = near-or-old m q k (decLe (s + w) (highest acc))
 

@@ -26,9 +26,9 @@ highest (s ∷ before) = max (highest before) s
 abbrev pub New : ℕ → List ℕ → ℕ → Type 0
 New w acc s = (Member s acc → ⊥) × (highest acc < s + w)
 
--- s is spent: accepted before, or s plus w is at most the highest
-abbrev pub Spent : ℕ → List ℕ → ℕ → Type 0
-Spent w acc s = Member s acc ⊎ (s + w ≤ highest acc)
+-- s is past: accepted before, or s plus w is at most the highest
+abbrev pub Past : ℕ → List ℕ → ℕ → Type 0
+Past w acc s = Member s acc ⊎ (s + w ≤ highest acc)
 
 -- s is below 2^64 - w, and arrives at least once while less than w behind the highest accepted by then
 pub record InTime (w : ℕ) (arrivals : List ℕ) (s : ℕ) : Type 0 where
