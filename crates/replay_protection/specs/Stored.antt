@@ -1,4 +1,5 @@
--- A window of width w in a table of words: its highest at index at, then its w places.
+-- A window of width w in a table of words: its highest at index at, then its w places. The layout is ours: document 01, "What must
+-- change shape", asks for a lent table of places and leaves open how a place is laid out.
 use Prim.Native.Nat.{ℕ, _+_}
 use mathlib.Core.List.{List, _∷_}
 use lib.ListN.{getD}

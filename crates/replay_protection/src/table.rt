@@ -13,6 +13,7 @@ pub fn load_window(t: &[u64], at: usize) -> ReplayProtection
     requires { ⌜ at + 1 + width ≤ length (now t) ⌝ }
     ensures { λ r. ⌜ r ≡ protection (windowAt width (now (t .entry)) at) ⌝ }
 {
+    let most_recent_sequence = t[at];
     let mut received_packet = [0u64; NETCODE_REPLAY_BUFFER_SIZE];
     serialize::copy_words(
         &mut received_packet,
@@ -22,7 +23,7 @@ pub fn load_window(t: &[u64], at: usize) -> ReplayProtection
         NETCODE_REPLAY_BUFFER_SIZE,
     );
     ReplayProtection {
-        most_recent_sequence: t[at],
+        most_recent_sequence,
         received_packet,
     }
 }
