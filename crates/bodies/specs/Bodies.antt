@@ -1,5 +1,5 @@
 -- The bodies of packets (document 01, "Bytes on the wire"; the standard, "Packets"). A packet is its numbers, and bytes beside them.
-use Prim.Native.Nat.{ℕ, _+_}
+use Prim.Native.Nat.{ℕ, _^_, _≤_, _<_}
 use mathlib.Core.List.{List, [], _++_}
 use lib.ListN.{length}
 use lib.Dec.{ltb}
@@ -34,6 +34,16 @@ wants kind.KeepAlive = 0
 wants kind.Payload = 0
 wants kind.Disconnect = 0
 
+-- how many of the bytes beside a packet its body takes: all of a payload, else what must be there
+abbrev pub takes : PacketType → ℕ → ℕ
+takes kind.ConnectionRequest n = 1061
+takes kind.ConnectionDenied n = 0
+takes kind.Challenge n = 300
+takes kind.Response n = 300
+takes kind.KeepAlive n = 0
+takes kind.Payload n = n
+takes kind.Disconnect n = 0
+
 -- the least that a body of the type has: a request 1,077 after its prefix, a challenge or response 8 + 300, a keep-alive 4 + 4
 abbrev pub least : PacketType → ℕ
 least kind.ConnectionRequest = 1077
@@ -53,6 +63,16 @@ bodyLength kind.Response n = 308
 bodyLength kind.KeepAlive n = 8
 bodyLength kind.Payload n = n
 bodyLength kind.Disconnect n = 0
+
+-- the numbers of a packet fit their fields, as the code's types have it
+abbrev pub Ranged : Packet → Type 0
+Ranged (ConnectionRequest protocol expiry) = (protocol < 256 ^ 8) × (expiry < 256 ^ 8)
+Ranged ConnectionDenied = 0 ≤ 0
+Ranged (Challenge sequence) = sequence < 256 ^ 8
+Ranged (Response sequence) = sequence < 256 ^ 8
+Ranged (KeepAlive index maximum) = (index < 256 ^ 4) × (maximum < 256 ^ 4)
+Ranged Payload = 0 ≤ 0
+Ranged Disconnect = 0 ≤ 0
 
 -- ---- written
 

@@ -38,3 +38,13 @@ windowed Response = false
 windowed KeepAlive = true
 windowed Payload = true
 windowed Disconnect = true
+
+-- a request goes in clear; every other packet is sealed
+abbrev pub isRequest : PacketType → Bool
+isRequest ConnectionRequest = true
+isRequest ConnectionDenied = false
+isRequest Challenge = false
+isRequest Response = false
+isRequest KeepAlive = false
+isRequest Payload = false
+isRequest Disconnect = false

@@ -1,6 +1,6 @@
 // The seven packets without their heads: their types, and their bodies read from and written to a place of a slice.
 ghost use mathlib.Core.Path.{_≡_};
-ghost use Rattle.bodies.specs.Kinds.{typeOf, numberOf, windowed};
+ghost use Rattle.bodies.specs.Kinds.{typeOf, numberOf, windowed, isRequest};
 ghost use Rattle.bodies.specs.Bodies.{kindOf, least, wants, bodyLength};
 
 mod challenge;
@@ -106,6 +106,50 @@ impl PacketType {
         }
     }
 
+    // How many bytes must stand beside a packet of this type. More are not looked at, but for a payload, which takes all.
+    pub fn wants(self) -> usize
+        ensures { λ r. ⌜ r ≡ wants self ⌝ }
+    {
+        match self {
+            PacketType::ConnectionRequest => 1061,
+            PacketType::ConnectionDenied => 0,
+            PacketType::Challenge => 300,
+            PacketType::Response => 300,
+            PacketType::KeepAlive => 0,
+            PacketType::Payload => 0,
+            PacketType::Disconnect => 0,
+        }
+    }
+
+    // How many bytes the body has as it is written, where `given` stand beside the packet.
+    pub fn body_len(self, given: usize) -> usize
+        ensures { λ r. ⌜ r ≡ bodyLength self given ⌝ }
+    {
+        match self {
+            PacketType::ConnectionRequest => 1077,
+            PacketType::ConnectionDenied => 0,
+            PacketType::Challenge => 308,
+            PacketType::Response => 308,
+            PacketType::KeepAlive => 8,
+            PacketType::Payload => given,
+            PacketType::Disconnect => 0,
+        }
+    }
+
+    pub fn is_request(self) -> bool
+        ensures { λ r. ⌜ r ≡ isRequest self ⌝ }
+    {
+        match self {
+            PacketType::ConnectionRequest => true,
+            PacketType::ConnectionDenied => false,
+            PacketType::Challenge => false,
+            PacketType::Response => false,
+            PacketType::KeepAlive => false,
+            PacketType::Payload => false,
+            PacketType::Disconnect => false,
+        }
+    }
+
     // Whether the window guards packets of this type.
     pub fn apply_replay_protection(self) -> bool
         ensures { λ r. ⌜ r ≡ windowed self ⌝ }
@@ -147,35 +191,5 @@ impl Packet {
         ensures { λ r. ⌜ r ≡ numberOf (kindOf self) ⌝ }
     {
         self.packet_type().to_u8()
-    }
-
-    // How many bytes must stand beside the packet. More are not looked at, but for a payload, which takes all.
-    pub fn wants(self) -> usize
-        ensures { λ r. ⌜ r ≡ wants (kindOf self) ⌝ }
-    {
-        match self.packet_type() {
-            PacketType::ConnectionRequest => 1061,
-            PacketType::ConnectionDenied => 0,
-            PacketType::Challenge => 300,
-            PacketType::Response => 300,
-            PacketType::KeepAlive => 0,
-            PacketType::Payload => 0,
-            PacketType::Disconnect => 0,
-        }
-    }
-
-    // How many bytes the body has, where `given` stand beside the packet.
-    pub fn body_len(self, given: usize) -> usize
-        ensures { λ r. ⌜ r ≡ bodyLength (kindOf self) given ⌝ }
-    {
-        match self.packet_type() {
-            PacketType::ConnectionRequest => 1077,
-            PacketType::ConnectionDenied => 0,
-            PacketType::Challenge => 308,
-            PacketType::Response => 308,
-            PacketType::KeepAlive => 8,
-            PacketType::Payload => given,
-            PacketType::Disconnect => 0,
-        }
     }
 }

@@ -1,0 +1,159 @@
+-- What is written reads back: a field of a body that was put together from fields is that field.
+use mathlib.Core.Path.{_≡_, refl, sym, ap, ap₂, _∙_}
+use Prim.Native.Nat.{ℕ, _+_, _^_, _≤_, _<_}
+use native.Mathlib.Omega.{arith}
+use mathlib.Core.List.{List, _++_}
+use lib.ListN.{length, length-append}
+use borrow.Author.Tests.{le-ltb}
+use Rattle.serialize.specs.Choice.{pick}
+use Rattle.serialize.specs.Runs.{part}
+use Rattle.serialize.specs.Le.{ofLe, toLe}
+use Rattle.serialize.proofs.Lists.{length-part, part-whole, part-left, part-right, part-add}
+use Rattle.serialize.proofs.Le.{length-toLe, ofLe-toLe}
+use Rattle.bodies.specs.declared.PacketType.{PacketType}
+use Rattle.bodies.specs.declared.PacketType.the-variants as kind
+use Rattle.bodies.specs.declared.TypeRead.the-variants.{Known}
+use Rattle.bodies.specs.declared.Packet.{Packet}
+use Rattle.bodies.specs.declared.Packet.the-variants.{ConnectionRequest, ConnectionDenied, Challenge, Response, KeepAlive, Payload, Disconnect}
+use Rattle.bodies.specs.declared.Body.the-variants.{Whole}
+use Rattle.bodies.specs.Kinds.{numberOf, typeOf}
+use Rattle.bodies.specs.Bodies.{kindOf, wants, takes, least, bodyLength, Ranged, requestBody, tokenBody, keepAliveBody, body, numbers, beside, readBody}
+
+-- ---- lengths
+
+module _ (protocol expiry : ℕ) (bytes : List ℕ) (w : 1061 ≤ length bytes) where
+  length-request : length (requestBody protocol expiry bytes) ≡ 1077
+  unfolding requestBody
+  length-request =
+      let a : length (part bytes 0 13) ≡ 13 = length-part bytes 0 13 (omega arith) in
+      let d : length (part bytes 13 1048) ≡ 1048 = length-part bytes 13 1048 (omega arith) in
+      simp length-append (omega (arith, length-toLe 8 protocol, length-toLe 8 expiry))
+
+length-token : (sequence : ℕ) (bytes : List ℕ) → 300 ≤ length bytes → length (tokenBody sequence bytes) ≡ 308
+unfolding tokenBody
+length-token sequence bytes w = simp length-append (omega (arith, length-toLe 8 sequence, length-part bytes 0 300 w))
+
+length-keep-alive : (index maximum : ℕ) → length (keepAliveBody index maximum) ≡ 8
+unfolding keepAliveBody
+length-keep-alive index maximum = simp length-append (omega (arith, length-toLe 4 index, length-toLe 4 maximum))
+
+pub length-body : (packet : Packet) (bytes : List ℕ) → wants (kindOf packet) ≤ length bytes → length (body packet bytes) ≡ bodyLength (kindOf packet) (length bytes)
+length-body (ConnectionRequest protocol expiry) bytes w = length-request protocol expiry bytes w
+length-body ConnectionDenied bytes w = refl
+length-body (Challenge sequence) bytes w = length-token sequence bytes w
+length-body (Response sequence) bytes w = length-token sequence bytes w
+length-body (KeepAlive index maximum) bytes w = length-keep-alive index maximum
+length-body Payload bytes w = refl
+length-body Disconnect bytes w = refl
+
+-- ---- types
+
+-- a type's number gives back the type, and a number below 7 is that of its type
+pub type-reads-back : (k : PacketType) → typeOf (numberOf k) ≡ Known k
+unfolding typeOf pick
+type-reads-back kind.ConnectionRequest = refl
+type-reads-back kind.ConnectionDenied = refl
+type-reads-back kind.Challenge = refl
+type-reads-back kind.Response = refl
+type-reads-back kind.KeepAlive = refl
+type-reads-back kind.Payload = refl
+type-reads-back kind.Disconnect = refl
+
+-- ---- fields
+
+-- the first of two lists, and a part of the second
+first-of : (xs ys : List ℕ) (k : ℕ) → length xs ≡ k → part (xs ++ ys) 0 k ≡ xs
+first-of xs ys k h = part-left xs ys 0 k (omega arith) ∙ part-whole xs k h
+
+second-of : (xs ys : List ℕ) (n b k : ℕ) → length xs ≡ n → part (xs ++ ys) (n + b) k ≡ part ys b k
+second-of xs ys n b k h = ap (λ (i : ℕ). part (xs ++ ys) (i + b) k) (sym h) ∙ part-right xs ys b k
+
+module _ (protocol expiry : ℕ) (bytes : List ℕ) (w : 1061 ≤ length bytes) where
+  request-protocol : part (requestBody protocol expiry bytes) 13 8 ≡ toLe 8 protocol
+  unfolding requestBody
+  request-protocol =
+      second-of (part bytes 0 13) (toLe 8 protocol ++ (toLe 8 expiry ++ part bytes 13 1048)) 13 0 8 (length-part bytes 0 13 (omega arith))
+      ∙ first-of (toLe 8 protocol) (toLe 8 expiry ++ part bytes 13 1048) 8 (length-toLe 8 protocol)
+
+  request-expiry : part (requestBody protocol expiry bytes) 21 8 ≡ toLe 8 expiry
+  unfolding requestBody
+  request-expiry =
+      second-of (part bytes 0 13) (toLe 8 protocol ++ (toLe 8 expiry ++ part bytes 13 1048)) 13 8 8 (length-part bytes 0 13 (omega arith))
+      ∙ second-of (toLe 8 protocol) (toLe 8 expiry ++ part bytes 13 1048) 8 0 8 (length-toLe 8 protocol)
+      ∙ first-of (toLe 8 expiry) (part bytes 13 1048) 8 (length-toLe 8 expiry)
+
+  request-beside : beside kind.ConnectionRequest (requestBody protocol expiry bytes) ≡ part bytes 0 1061
+  unfolding requestBody
+  request-beside =
+      let rest : List ℕ = part bytes 13 1048 in
+      ap₂ (λ (a b : List ℕ). a ++ b)
+      (first-of (part bytes 0 13) (toLe 8 protocol ++ (toLe 8 expiry ++ rest)) 13 (length-part bytes 0 13 (omega arith)))
+      (second-of (part bytes 0 13) (toLe 8 protocol ++ (toLe 8 expiry ++ rest)) 13 16 1048 (length-part bytes 0 13 (omega arith))
+      ∙ second-of (toLe 8 protocol) (toLe 8 expiry ++ rest) 8 8 1048 (length-toLe 8 protocol)
+      ∙ second-of (toLe 8 expiry) rest 8 0 1048 (length-toLe 8 expiry)
+      ∙ part-whole rest 1048 (length-part bytes 13 1048 (omega arith)))
+      ∙ sym (part-add bytes 0 13 1048)
+
+module _ (sequence : ℕ) (bytes : List ℕ) (w : 300 ≤ length bytes) where
+  token-number : part (tokenBody sequence bytes) 0 8 ≡ toLe 8 sequence
+  unfolding tokenBody
+  token-number = first-of (toLe 8 sequence) (part bytes 0 300) 8 (length-toLe 8 sequence)
+
+  token-beside : part (tokenBody sequence bytes) 8 300 ≡ part bytes 0 300
+  unfolding tokenBody
+  token-beside = second-of (toLe 8 sequence) (part bytes 0 300) 8 0 300 (length-toLe 8 sequence) ∙ part-whole (part bytes 0 300) 300 (length-part bytes 0 300 w)
+
+module _ (index maximum : ℕ) where
+  keep-alive-index : part (keepAliveBody index maximum) 0 4 ≡ toLe 4 index
+  unfolding keepAliveBody
+  keep-alive-index = first-of (toLe 4 index) (toLe 4 maximum) 4 (length-toLe 4 index)
+
+  keep-alive-maximum : part (keepAliveBody index maximum) 4 4 ≡ toLe 4 maximum
+  unfolding keepAliveBody
+  keep-alive-maximum = second-of (toLe 4 index) (toLe 4 maximum) 4 0 4 (length-toLe 4 index) ∙ part-whole (toLe 4 maximum) 4 (length-toLe 4 maximum)
+
+-- a field that was written as a number reads as the number
+number-of : (l : List ℕ) (k v : ℕ) → l ≡ toLe k v → v < 256 ^ k → ofLe l ≡ v
+number-of l k v e h = ap ofLe e ∙ ofLe-toLe k v h
+
+-- ---- theorems
+
+-- the numbers that a packet's body says are the packet's
+pub numbers-read-back : (packet : Packet) (bytes : List ℕ) → Ranged packet → wants (kindOf packet) ≤ length bytes → numbers (kindOf packet) (body packet bytes) ≡ packet
+numbers-read-back (ConnectionRequest protocol expiry) bytes r w =
+    ap₂ ConnectionRequest
+    (number-of _ 8 protocol (request-protocol protocol expiry bytes w) (r .0))
+    (number-of _ 8 expiry (request-expiry protocol expiry bytes w) (r .1))
+numbers-read-back ConnectionDenied bytes r w = refl
+numbers-read-back (Challenge sequence) bytes r w = ap Challenge (number-of _ 8 sequence (token-number sequence bytes w) r)
+numbers-read-back (Response sequence) bytes r w = ap Response (number-of _ 8 sequence (token-number sequence bytes w) r)
+numbers-read-back (KeepAlive index maximum) bytes r w =
+    ap₂ KeepAlive (number-of _ 4 index (keep-alive-index index maximum) (r .0)) (number-of _ 4 maximum (keep-alive-maximum index maximum) (r .1))
+numbers-read-back Payload bytes r w = refl
+numbers-read-back Disconnect bytes r w = refl
+
+-- and those are the bytes that stand beside them in the body
+pub beside-reads-back : (packet : Packet) (bytes : List ℕ) → wants (kindOf packet) ≤ length bytes → beside (kindOf packet) (body packet bytes) ≡ part bytes 0 (takes (kindOf packet) (length bytes))
+beside-reads-back (ConnectionRequest protocol expiry) bytes w = request-beside protocol expiry bytes w
+beside-reads-back ConnectionDenied bytes w = refl
+beside-reads-back (Challenge sequence) bytes w = token-beside sequence bytes w
+beside-reads-back (Response sequence) bytes w = token-beside sequence bytes w
+beside-reads-back (KeepAlive index maximum) bytes w = refl
+beside-reads-back Payload bytes w = sym (part-whole bytes (length bytes) refl)
+beside-reads-back Disconnect bytes w = refl
+
+least-body : (k : PacketType) (n : ℕ) → least k ≤ bodyLength k n
+least-body kind.ConnectionRequest n = omega arith
+least-body kind.ConnectionDenied n = omega arith
+least-body kind.Challenge n = omega arith
+least-body kind.Response n = omega arith
+least-body kind.KeepAlive n = omega arith
+least-body kind.Payload n = omega arith
+least-body kind.Disconnect n = omega arith
+
+-- so a body that was written is read, as the same packet
+pub body-reads-back : (packet : Packet) (bytes : List ℕ) → Ranged packet → wants (kindOf packet) ≤ length bytes → readBody (kindOf packet) (body packet bytes) ≡ Whole packet
+unfolding readBody pick
+body-reads-back packet bytes r w =
+    let n : length (body packet bytes) ≡ bodyLength (kindOf packet) (length bytes) = length-body packet bytes w in
+    simp (le-ltb (length (body packet bytes)) (least (kindOf packet)) (omega (arith, least-body (kindOf packet) (length bytes)))) (ap Whole (numbers-read-back packet bytes r w))

@@ -1,0 +1,4 @@
+pub mod Asks
+pub mod Encodes
+pub mod Decodes
+pub mod Challenges
