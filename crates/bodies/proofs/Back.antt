@@ -2,21 +2,25 @@
 use mathlib.Core.Path.{_≡_, refl, sym, ap, ap₂, _∙_}
 use Prim.Native.Nat.{ℕ, _+_, _^_, _≤_, _<_}
 use native.Mathlib.Omega.{arith}
+use mathlib.Core.Logic.{_≢_}
+use mathlib.Core.Bool.{true}
 use mathlib.Core.List.{List, _++_}
 use lib.ListN.{length, length-append}
-use borrow.Author.Tests.{le-ltb}
+use lib.Dec.{eqb}
+use borrow.Author.Tests.{le-ltb, ne-eqb, eqb-true, eqb-false}
 use Rattle.serialize.specs.Choice.{pick}
 use Rattle.serialize.specs.Runs.{part}
 use Rattle.serialize.specs.Le.{ofLe, toLe}
+use Rattle.serialize.proofs.Choice.{by-test}
 use Rattle.serialize.proofs.Lists.{length-part, part-whole, part-left, part-right, part-add}
 use Rattle.serialize.proofs.Le.{length-toLe, ofLe-toLe}
 use Rattle.bodies.specs.declared.PacketType.{PacketType}
 use Rattle.bodies.specs.declared.PacketType.the-variants as kind
-use Rattle.bodies.specs.declared.TypeRead.the-variants.{Known}
+use Rattle.bodies.specs.declared.TypeRead.the-variants.{Known, Invalid}
 use Rattle.bodies.specs.declared.Packet.{Packet}
 use Rattle.bodies.specs.declared.Packet.the-variants.{ConnectionRequest, ConnectionDenied, Challenge, Response, KeepAlive, Payload, Disconnect}
 use Rattle.bodies.specs.declared.Body.the-variants.{Whole}
-use Rattle.bodies.specs.Kinds.{numberOf, typeOf}
+use Rattle.bodies.specs.Kinds.{numberOf, typeOf, isRequest}
 use Rattle.bodies.specs.Bodies.{kindOf, wants, takes, least, bodyLength, Ranged, requestBody, tokenBody, keepAliveBody, body, numbers, beside, readBody}
 
 -- ---- lengths
@@ -157,3 +161,64 @@ unfolding readBody pick
 body-reads-back packet bytes r w =
     let n : length (body packet bytes) ≡ bodyLength (kindOf packet) (length bytes) = length-body packet bytes w in
     simp (le-ltb (length (body packet bytes)) (least (kindOf packet)) (omega (arith, least-body (kindOf packet) (length bytes)))) (ap Whole (numbers-read-back packet bytes r w))
+
+-- ---- which numbers are types
+
+-- two known types are one, and none is unknown
+is : {n : ℕ} (i : ℕ) (a k : PacketType) → eqb n i ≡ true → Known a ≡ Known k → numberOf a ≡ i → n ≡ numberOf k
+is {n} i a k e f g = let same : a ≡ k = cc in eqb-true n i e ∙ sym g ∙ ap numberOf same
+
+no-type : (k : PacketType) → Invalid ≡ Known k → ⊥
+no-type k e = let z : _≡_ {A = ℕ} 0 1 = cc in omega arith
+
+-- a number whose type is k is k's, and one without a type is over 6
+module _ (n : ℕ) where
+  pub typed-number : (k : PacketType) → typeOf n ≡ Known k → n ≡ numberOf k
+  unfolding typeOf pick
+  typed-number k h =
+      by-test (eqb n 0) (λ e. is 0 kind.ConnectionRequest k e (simp e at h) refl) (λ e0.
+      by-test (eqb n 1) (λ e. is 1 kind.ConnectionDenied k e (simp (e0, e) at h) refl) (λ e1.
+      by-test (eqb n 2) (λ e. is 2 kind.Challenge k e (simp (e0, e1, e) at h) refl) (λ e2.
+      by-test (eqb n 3) (λ e. is 3 kind.Response k e (simp (e0, e1, e2, e) at h) refl) (λ e3.
+      by-test (eqb n 4) (λ e. is 4 kind.KeepAlive k e (simp (e0, e1, e2, e3, e) at h) refl) (λ e4.
+      by-test (eqb n 5) (λ e. is 5 kind.Payload k e (simp (e0, e1, e2, e3, e4, e) at h) refl) (λ e5.
+      by-test (eqb n 6) (λ e. is 6 kind.Disconnect k e (simp (e0, e1, e2, e3, e4, e5, e) at h) refl) (λ e6.
+      absurd (no-type k (simp (e0, e1, e2, e3, e4, e5, e6) at h)))))))))
+
+  above : (i : ℕ) → i ≤ n → n ≢ i → i + 1 ≤ n
+  above i h d = omega arith
+
+  pub untyped-number : typeOf n ≡ Invalid → 6 < n
+  unfolding typeOf pick
+  untyped-number h =
+      by-test (eqb n 0) (λ e. absurd (no-type _ (sym (simp e at h)))) (λ e0.
+      by-test (eqb n 1) (λ e. absurd (no-type _ (sym (simp (e0, e) at h)))) (λ e1.
+      by-test (eqb n 2) (λ e. absurd (no-type _ (sym (simp (e0, e1, e) at h)))) (λ e2.
+      by-test (eqb n 3) (λ e. absurd (no-type _ (sym (simp (e0, e1, e2, e) at h)))) (λ e3.
+      by-test (eqb n 4) (λ e. absurd (no-type _ (sym (simp (e0, e1, e2, e3, e) at h)))) (λ e4.
+      by-test (eqb n 5) (λ e. absurd (no-type _ (sym (simp (e0, e1, e2, e3, e4, e) at h)))) (λ e5.
+      by-test (eqb n 6) (λ e. absurd (no-type _ (sym (simp (e0, e1, e2, e3, e4, e5, e) at h)))) (λ e6.
+      above 6 (above 5 (above 4 (above 3 (above 2 (above 1 (above 0 (omega arith) (eqb-false n 0 e0)) (eqb-false n 1 e1)) (eqb-false n 2 e2)) (eqb-false n 3 e3)) (eqb-false n 4 e4)) (eqb-false n 5 e5)) (eqb-false n 6 e6))))))))
+
+  pub number-untyped : 6 < n → typeOf n ≡ Invalid
+  unfolding typeOf pick
+  number-untyped h =
+      simp (
+        ne-eqb n 0 (λ e. omega arith),
+        ne-eqb n 1 (λ e. omega arith),
+        ne-eqb n 2 (λ e. omega arith),
+        ne-eqb n 3 (λ e. omega arith),
+        ne-eqb n 4 (λ e. omega arith),
+        ne-eqb n 5 (λ e. omega arith),
+        ne-eqb n 6 (λ e. omega arith),
+      )
+
+-- a request's body has 1,077 bytes at least
+pub request-least : (k : PacketType) → isRequest k ≡ true → least k ≡ 1077
+request-least kind.ConnectionRequest e = refl
+request-least kind.ConnectionDenied e = absurd (let z : _≡_ {A = ℕ} 0 1 = cc in omega arith)
+request-least kind.Challenge e = absurd (let z : _≡_ {A = ℕ} 0 1 = cc in omega arith)
+request-least kind.Response e = absurd (let z : _≡_ {A = ℕ} 0 1 = cc in omega arith)
+request-least kind.KeepAlive e = absurd (let z : _≡_ {A = ℕ} 0 1 = cc in omega arith)
+request-least kind.Payload e = absurd (let z : _≡_ {A = ℕ} 0 1 = cc in omega arith)
+request-least kind.Disconnect e = absurd (let z : _≡_ {A = ℕ} 0 1 = cc in omega arith)

@@ -1,1 +1,4 @@
 pub mod Ways
+pub mod RoundTrip
+pub mod Exactly
+pub mod Determined
