@@ -23,21 +23,22 @@ use Rattle.bodies.specs.declared.Body.the-variants.{Whole, Short}
 use Rattle.bodies.specs.Kinds.{numberOf, typeOf, windowed, isRequest}
 use Rattle.bodies.specs.Bodies.{kindOf, least, wants, numbers, readBody}
 use Rattle.bodies.proofs.Back.{type-reads-back, typed-number, untyped-number, number-untyped, request-least}
-use Rattle.packet.specs.declared.PrivateKey.{PrivateKey}
-use Rattle.packet.specs.declared.Guard.{Guard}
-use Rattle.packet.specs.declared.Opened.{Opened}
-use Rattle.packet.specs.declared.Decoded.{Decoded}
-use Rattle.packet.specs.declared.Decoding.{Decoding}
-use Rattle.packet.specs.declared.Decoding.the-variants as decoding
-use Rattle.packet.specs.declared.Encoding.{Encoding}
-use Rattle.packet.specs.declared.Encoding.the-variants as encoding
-use Rattle.packet.specs.declared.Opening.the-variants as opening
-use Rattle.packet.specs.declared.Sealing.the-variants as sealing
-use Rattle.packet.specs.Asks.{noAsk, unlike}
-use Rattle.packet.specs.Encodes.{Done, done, refusedBy, need, unencodable, writtenAs, encode, answerSealOpen, answerSeal}
-use Rattle.packet.specs.Decodes.{decodedAs, ended, typed, typeAt, countOf, sequenceOf, startAt, windowRefusal, guardRefusal, guardAccepts, byBody, readOpened, decodeAt, byStart, decodeSealed, decodeOf, byKind, decode, answerOpened, answerOpen}
+use Rattle.asks.specs.declared.PrivateKey.{PrivateKey}
+use Rattle.decode.specs.declared.Guard.{Guard}
+use Rattle.decode.specs.declared.Opened.{Opened}
+use Rattle.decode.specs.declared.Decoded.{Decoded}
+use Rattle.decode.specs.declared.Decoding.{Decoding}
+use Rattle.decode.specs.declared.Decoding.the-variants as decoding
+use Rattle.encode.specs.declared.Encoding.{Encoding}
+use Rattle.encode.specs.declared.Encoding.the-variants as encoding
+use Rattle.decode.specs.declared.Opening.the-variants as opening
+use Rattle.encode.specs.declared.Sealing.the-variants as sealing
+use Rattle.asks.specs.Asks.{noAsk, unlike}
+use Rattle.encode.specs.Encodes.{Done, done, refusedBy, need, unencodable, writtenAs, encode, answerSealOpen, answerSeal}
+use Rattle.decode.specs.Decodes.{decodedAs, ended, typed, typeAt, countOf, sequenceOf, startAt, windowRefusal, guardRefusal, guardAccepts, byBody, readOpened, decodeAt, byStart, decodeSealed, decodeOf, byKind, decode, answerOpened, answerOpen}
 use Rattle.packet.specs.Table.{Iff, Typed, Keyed, Passes, DecodeSays, says-1, says-2, says-9, says-3, says-4, says-5, says-6, says-7, Lent, OpenSays, opens-18, opens-8, opens-9, MayWrite, EncodeSays, encodes-3, encodes-14, encodes-9, SealSays, seals-18, seals-24}
-use Rattle.packet.proofs.Ways.{like-means, lacks-key, lacks-room, lacks-bytes, lacks-nothing}
+use Rattle.asks.proofs.Lent.{like-means}
+use Rattle.encode.proofs.Ways.{lacks-key, lacks-room, lacks-bytes, lacks-nothing}
 
 -- ---- answers that differ
 

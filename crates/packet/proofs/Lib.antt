@@ -1,4 +1,2 @@
-pub mod Ways
 pub mod RoundTrip
 pub mod Exactly
-pub mod Determined

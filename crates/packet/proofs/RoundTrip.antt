@@ -27,21 +27,21 @@ use Rattle.bodies.specs.declared.Body.the-variants.{Whole}
 use Rattle.bodies.specs.Kinds.{numberOf, typeOf, isRequest}
 use Rattle.bodies.specs.Bodies.{kindOf, wants, takes, bodyLength, Ranged, body, beside, readBody}
 use Rattle.bodies.proofs.Back.{length-body, type-reads-back, body-reads-back, beside-reads-back}
-use Rattle.packet.specs.declared.Ask.{Ask}
-use Rattle.packet.specs.declared.Guard.{Guard}
-use Rattle.packet.specs.declared.PrivateKey.{PrivateKey}
-use Rattle.packet.specs.declared.Work.the-variants as work
-use Rattle.packet.specs.declared.Decoding.the-variants as decoding
-use Rattle.packet.specs.declared.Opening.the-variants as opening
-use Rattle.packet.specs.declared.Kind.the-variants as kindly
-use Rattle.packet.specs.declared.Start.the-variants as starting
-use Rattle.packet.specs.Decodes.{decodedAs, ended, typed, typeAt, countOf, sequenceOf, startAt, guardRefusal, guardAccepts, opened, byBody, readOpened, decodeAt, byStart, decodeSealed, decodeOf, byKind, decode, answerOpened, answerOpen}
-use Rattle.packet.specs.Asks.{noAsk, packetAsk}
-use Rattle.packet.specs.declared.Encoding.the-variants as encoding
-use Rattle.packet.specs.declared.Sealing.the-variants as sealing
-use Rattle.packet.specs.Encodes.{Done, done, encodedAs, shown, tagPlaces, bodyAt, need, clear, unencodable, writtenAs, encode}
+use Rattle.asks.specs.declared.Ask.{Ask}
+use Rattle.decode.specs.declared.Guard.{Guard}
+use Rattle.asks.specs.declared.PrivateKey.{PrivateKey}
+use Rattle.asks.specs.declared.Work.the-variants as work
+use Rattle.decode.specs.declared.Decoding.the-variants as decoding
+use Rattle.decode.specs.declared.Opening.the-variants as opening
+use Rattle.decode.specs.declared.Kind.the-variants as kindly
+use Rattle.decode.specs.declared.Start.the-variants as starting
+use Rattle.decode.specs.Decodes.{decodedAs, ended, typed, typeAt, countOf, sequenceOf, startAt, guardRefusal, guardAccepts, opened, byBody, readOpened, decodeAt, byStart, decodeSealed, decodeOf, byKind, decode, answerOpened, answerOpen}
+use Rattle.asks.specs.Asks.{noAsk, packetAsk}
+use Rattle.encode.specs.declared.Encoding.the-variants as encoding
+use Rattle.encode.specs.declared.Sealing.the-variants as sealing
+use Rattle.encode.specs.Encodes.{Done, done, encodedAs, shown, tagPlaces, bodyAt, need, clear, unencodable, writtenAs, encode}
 use Rattle.packet.specs.Hosts.{Host, Yes, sealedIn, saidOf, openedIn, sent, ReadBack}
-use Rattle.packet.proofs.Ways.{lacks-nothing, encodable}
+use Rattle.encode.proofs.Ways.{lacks-nothing, encodable}
 
 -- ---- a datagram: a head of a type and a sequence, and what follows it
 

@@ -8,13 +8,13 @@ use lib.ListN.{length, take}
 use Rattle.serialize.specs.Runs.{part, splice}
 use Rattle.bodies.specs.declared.Packet.{Packet}
 use Rattle.bodies.specs.Bodies.{kindOf, takes, body, beside}
-use Rattle.packet.specs.declared.Ask.{Ask}
-use Rattle.packet.specs.declared.PrivateKey.{PrivateKey}
-use Rattle.packet.specs.declared.Guard.{Guard}
-use Rattle.packet.specs.declared.Decoding.the-variants.{Asked, Read}
-use Rattle.packet.specs.declared.Opening.the-variants.{Open}
-use Rattle.packet.specs.Encodes.{Done}
-use Rattle.packet.specs.Decodes.{decodedAs, ended, opened, guardAccepts, decode, answerOpen}
+use Rattle.asks.specs.declared.Ask.{Ask}
+use Rattle.asks.specs.declared.PrivateKey.{PrivateKey}
+use Rattle.decode.specs.declared.Guard.{Guard}
+use Rattle.decode.specs.declared.Decoding.the-variants.{Asked, Read}
+use Rattle.decode.specs.declared.Opening.the-variants.{Open}
+use Rattle.encode.specs.Encodes.{Done}
+use Rattle.decode.specs.Decodes.{decodedAs, ended, opened, guardAccepts, decode, answerOpen}
 
 -- what a host says to an ask to open: no, or yes with the text
 pub data Said : Type 0 where

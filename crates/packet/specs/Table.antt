@@ -11,9 +11,9 @@ use Rattle.replay_protection.specs.Ours.{width, windowOf}
 use Rattle.bodies.specs.declared.PacketType.{PacketType}
 use Rattle.bodies.specs.Kinds.{numberOf, windowed, isRequest}
 use Rattle.bodies.specs.Bodies.{wants, least}
-use Rattle.packet.specs.declared.Guard.{Guard}
-use Rattle.packet.specs.Encodes.{need}
-use Rattle.packet.specs.Decodes.{countOf, sequenceOf}
+use Rattle.decode.specs.declared.Guard.{Guard}
+use Rattle.encode.specs.Encodes.{need}
+use Rattle.decode.specs.Decodes.{countOf, sequenceOf}
 
 -- each follows from the other
 abbrev pub Iff : Type 0 → Type 0 → Type 0

@@ -1,0 +1,2 @@
+pub mod Decodes
+pub mod Challenges
