@@ -9,10 +9,10 @@ use lib.ListN.{length, length-append}
 use lib.Dec.{eqb}
 use borrow.Author.Tests.{le-ltb, ne-eqb, eqb-true, eqb-false}
 use Rattle.serialize.specs.Choice.{pick}
-use Rattle.serialize.specs.Runs.{part}
+use Rattle.serialize.specs.Runs.{part, splice, zeros}
 use Rattle.serialize.specs.Le.{ofLe, toLe}
 use Rattle.serialize.proofs.Choice.{by-test}
-use Rattle.serialize.proofs.Lists.{length-part, part-whole, part-left, part-right, part-add}
+use Rattle.serialize.proofs.Lists.{length-part, part-whole, part-left, part-right, part-add, part-splice-in}
 use Rattle.serialize.proofs.Le.{length-toLe, ofLe-toLe}
 use Rattle.bodies.specs.declared.PacketType.{PacketType}
 use Rattle.bodies.specs.declared.PacketType.the-variants as kind
@@ -20,7 +20,9 @@ use Rattle.bodies.specs.declared.TypeRead.the-variants.{Known, Invalid}
 use Rattle.bodies.specs.declared.Packet.{Packet}
 use Rattle.bodies.specs.declared.Packet.the-variants.{ConnectionRequest, ConnectionDenied, Challenge, Response, KeepAlive, Payload, Disconnect}
 use Rattle.bodies.specs.declared.Body.the-variants.{Whole}
+use Rattle.bodies.specs.declared.challenge.ChallengeToken.{ChallengeToken}
 use Rattle.bodies.specs.Kinds.{numberOf, typeOf, isRequest}
+use Rattle.bodies.specs.Tokens.{token, tokenClear, tokenAt}
 use Rattle.bodies.specs.Bodies.{kindOf, wants, takes, least, bodyLength, Ranged, requestBody, tokenBody, keepAliveBody, body, numbers, beside, readBody}
 
 -- ---- lengths
@@ -222,3 +224,26 @@ request-least kind.Response e = absurd (let z : _≡_ {A = ℕ} 0 1 = cc in omeg
 request-least kind.KeepAlive e = absurd (let z : _≡_ {A = ℕ} 0 1 = cc in omega arith)
 request-least kind.Payload e = absurd (let z : _≡_ {A = ℕ} 0 1 = cc in omega arith)
 request-least kind.Disconnect e = absurd (let z : _≡_ {A = ℕ} 0 1 = cc in omega arith)
+
+-- ---- the challenge token
+
+pub length-clear : (t : ChallengeToken) → length (t .«user_data») ≡ 256 → length (tokenClear t) ≡ 284
+unfolding tokenClear
+length-clear t u = let z : length (zeros 20) ≡ 20 = refl in simp length-append (omega (arith, length-toLe 8 (t .«client_id»)))
+
+-- a token that was written is read as the same token
+pub token-reads-back : (l : List ℕ) (at : ℕ) (t : ChallengeToken) → at + 284 ≤ length l → t .«client_id» < 256 ^ 8 → length (t .«user_data») ≡ 256
+    → tokenAt (splice l at (tokenClear t)) at ≡ t
+unfolding tokenAt tokenClear
+token-reads-back l at t h i u =
+    let id : List ℕ = toLe 8 (t .«client_id») in
+    let user : List ℕ = t .«user_data» in
+    let n : length (tokenClear t) ≡ 284 = length-clear t u in
+    let z : at ≡ at + 0 = omega arith in
+    ap₂ token
+    (ap (λ (k : ℕ). ofLe (part (splice l at (tokenClear t)) k 8)) z
+    ∙ ap ofLe (part-splice-in l at (tokenClear t) 0 8 (omega arith) (omega arith) ∙ first-of id (user ++ zeros 20) 8 (length-toLe 8 (t .«client_id»)))
+    ∙ ofLe-toLe 8 (t .«client_id») i)
+    (part-splice-in l at (tokenClear t) 8 256 (omega arith) (omega arith)
+    ∙ second-of id (user ++ zeros 20) 8 0 256 (length-toLe 8 (t .«client_id»))
+    ∙ first-of user (zeros 20) 256 u)

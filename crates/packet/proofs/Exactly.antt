@@ -17,6 +17,7 @@ use Rattle.replay_protection.specs.Replay.{spent, refusalBy, refuses, refusal, 
 use Rattle.replay_protection.specs.Ours.{width, windowOf}
 use Rattle.bodies.specs.declared.PacketType.{PacketType}
 use Rattle.bodies.specs.declared.Packet.{Packet}
+use Rattle.bodies.specs.declared.challenge.ChallengeToken.{ChallengeToken}
 use Rattle.bodies.specs.declared.TypeRead.{TypeRead}
 use Rattle.bodies.specs.declared.TypeRead.the-variants.{Known, Invalid}
 use Rattle.bodies.specs.declared.Body.the-variants.{Whole, Short}
@@ -32,11 +33,15 @@ use Rattle.decode.specs.declared.Decoding.the-variants as decoding
 use Rattle.encode.specs.declared.Encoding.{Encoding}
 use Rattle.encode.specs.declared.Encoding.the-variants as encoding
 use Rattle.decode.specs.declared.Opening.the-variants as opening
+use Rattle.decode.specs.declared.Proving.the-variants as proving
+use Rattle.decode.specs.declared.ProofOpening.the-variants as proof
 use Rattle.encode.specs.declared.Sealing.the-variants as sealing
 use Rattle.asks.specs.Asks.{noAsk, unlike}
-use Rattle.encode.specs.Encodes.{Done, done, refusedBy, need, unencodable, writtenAs, encode, answerSealOpen, answerSeal}
+use Rattle.encode.specs.Encodes.{Done, done, encodedAs, refusedBy, need, unencodable, writtenAs, encode, answerSealOpen, answerSeal}
 use Rattle.decode.specs.Decodes.{decodedAs, ended, typed, typeAt, countOf, sequenceOf, startAt, windowRefusal, guardRefusal, guardAccepts, byBody, readOpened, decodeAt, byStart, decodeSealed, decodeOf, byKind, decode, answerOpened, answerOpen}
-use Rattle.packet.specs.Table.{Iff, Typed, Keyed, Passes, DecodeSays, says-1, says-2, says-9, says-3, says-4, says-5, says-6, says-7, Lent, OpenSays, opens-18, opens-8, opens-9, MayWrite, EncodeSays, encodes-3, encodes-14, encodes-9, SealSays, seals-18, seals-24}
+use Rattle.encode.specs.Generates.{generateChallenge}
+use Rattle.decode.specs.Challenges.{unproved, decodeChallenge, answerProof, answerChallenge}
+use Rattle.packet.specs.Table.{Iff, Typed, Keyed, Passes, DecodeSays, says-1, says-2, says-9, says-3, says-4, says-5, says-6, says-7, Lent, OpenSays, opens-18, opens-8, opens-9, MayWrite, EncodeSays, encodes-3, encodes-14, encodes-9, SealSays, seals-18, seals-24, ProofSays, proves-18, proves-8, Refusals}
 use Rattle.asks.proofs.Lent.{like-means}
 use Rattle.encode.proofs.Ways.{lacks-key, lacks-room, lacks-bytes, lacks-nothing}
 
@@ -59,6 +64,15 @@ not-length e = let z : _≡_ {A = ℕ} 0 1 = cc in omega arith
 
 not-asked-seal : {n : ℕ} → encoding.Asked ≡ encoding.Refused n → ⊥
 not-asked-seal e = let z : _≡_ {A = ℕ} 0 1 = cc in omega arith
+
+same-proof : {m n : ℕ} → proving.Refused m ≡ proving.Refused n → m ≡ n
+same-proof e = cc
+
+not-asked-proof : {n : ℕ} → proving.Asked ≡ proving.Refused n → ⊥
+not-asked-proof e = let z : _≡_ {A = ℕ} 0 1 = cc in omega arith
+
+not-proved : {n : ℕ} → proving.Proved ≡ proving.Refused n → ⊥
+not-proved e = let z : _≡_ {A = ℕ} 0 1 = cc in omega arith
 
 same-number : {m n : ℕ} → decoding.Refused m ≡ decoding.Refused n → m ≡ n
 same-number e = cc
@@ -343,5 +357,76 @@ module _ (end len : ℕ) (room : ℕ) (granted : Bool) where
       (λ g. absurd (not-length (simp (u, g) at e)))
       (λ g. subst says (same-refusal (simp (u, g) at e)) (seals-24 (like-lent end 0 len room u) g)))
 
+  seal-keeps : (Lent end 0 len room → ⊥) → answerSeal (sealing.Open end len) room granted ≡ encodedAs (encoding.Refused 18) noAsk (sealing.Open end len)
+  unfolding answerSealOpen pick
+  seal-keeps f = simp (lent-unlike end 0 len room f)
+
   pub seal-exactly : (n : ℕ) → Iff (answerSeal (sealing.Open end len) room granted .answer ≡ encoding.Refused n) (SealSays end len room granted n)
   seal-exactly n = (seals-says n, seals-given n)
+
+-- ---- the challenge token
+
+module _ (out : List ℕ) (at : ℕ) (t : ChallengeToken) (sequence : ℕ) (key : List ℕ) where
+  generate-exactly : (n : ℕ) → Iff (generateChallenge out at t sequence key .encoded .answer ≡ encoding.Refused n) ((n ≡ 14) × (length out < at + 300))
+  unfolding generateChallenge pick
+  generate-exactly n =
+      ((λ e. by-test (ltb (length out) (at + 300))
+      (λ u. (sym (same-refusal (simp u at e)), ltb-true (length out) (at + 300) u))
+      (λ u. absurd (not-asked-seal (simp u at e)))),
+      (λ p. simp (lt-ltb (length out) (at + 300) (p .1)) (ap encoding.Refused (sym (p .0)))))
+
+  generate-keeps : length out < at + 300 → generateChallenge out at t sequence key .out ≡ out
+  unfolding generateChallenge pick
+  generate-keeps h = simp (lt-ltb (length out) (at + 300) h)
+
+demand-exactly : (room at sequence : ℕ) (key : List ℕ) (n : ℕ) → Iff (decodeChallenge room at sequence key .answer ≡ proving.Refused n) ((n ≡ 9) × (room < at + 300))
+unfolding decodeChallenge pick
+demand-exactly room at sequence key n =
+    ((λ e. by-test (ltb room (at + 300))
+    (λ u. (sym (same-proof (simp u at e)), ltb-true room (at + 300) u))
+    (λ u. absurd (not-asked-proof (simp u at e)))),
+    (λ p. simp (lt-ltb room (at + 300) (p .1)) (ap proving.Refused (sym (p .0)))))
+
+module _ (at len : ℕ) (src : List ℕ) (granted : Bool) where
+  proves-given : (n : ℕ) → ProofSays at len (length src) granted n → answerProof at len src granted .answer ≡ proving.Refused n
+  unfolding answerProof pick
+  proves-given n (proves-18 f) = simp (lent-unlike at 300 len (length src) f)
+  proves-given n (proves-8 l g) = simp (lent-like at 300 len (length src) l, g)
+
+  proves-says : (n : ℕ) → answerProof at len src granted .answer ≡ proving.Refused n → ProofSays at len (length src) granted n
+  unfolding answerProof pick
+  proves-says n e =
+      let says : ℕ → Type 0 = ProofSays at len (length src) granted in
+      by-test (unlike at 300 len (length src))
+      (λ u. subst says (same-proof (simp u at e)) (proves-18 (unlike-lent at 300 len (length src) u)))
+      (λ u. by-test granted
+      (λ g. absurd (not-proved (simp (u, g) at e)))
+      (λ g. subst says (same-proof (simp (u, g) at e)) (proves-8 (like-lent at 300 len (length src) u) g)))
+
+  proves-keeps : (Lent at 300 len (length src) → ⊥) → answerProof at len src granted ≡ unproved 18 (proof.Open at len)
+  unfolding answerProof pick
+  proves-keeps f = simp (lent-unlike at 300 len (length src) f)
+
+-- ---- the one statement
+
+pub refusals : Refusals
+refusals = record {
+  decodes = decode-exactly;
+  decodes-nothing = decode-keeps;
+  opens-none = λ d guard granted. refl;
+  opens = open-exactly;
+  opens-stays = unlike-stays;
+  opens-no = λ kind sequence start len d guard. no-keeps-window kind sequence start len d guard false refl;
+  opens-yes = λ kind sequence start len d guard l. yes-moves-window kind sequence start len d guard true refl l;
+  encodes = encode-exactly;
+  encodes-nothing = encode-keeps;
+  seals-none = λ room granted. refl;
+  seals = seal-exactly;
+  seals-stays = seal-keeps;
+  generates = generate-exactly;
+  generates-nothing = generate-keeps;
+  demands = demand-exactly;
+  proves-none = λ src granted. refl;
+  proves = λ at len src granted n. (proves-says at len src granted n, proves-given at len src granted n);
+  proves-stays = proves-keeps;
+}

@@ -1,19 +1,31 @@
--- Document 01's table, "When the server says no", for decode, encode and the host's answers: each number with what it is given for,
+-- Document 01's table, "When the server says no", for encode, decode, the challenge token and the host's answers: each number with what it is given for,
 -- after the lines that come before it in document 01's order have passed.
 use Prim.Native.Nat.{ℕ, _+_, _-_, _%_, _^_, _≤_, _<_}
 use mathlib.Core.Path.{_≡_}
-use mathlib.Core.Logic.{_⊎_, _≢_}
+use mathlib.Core.Logic.{_⊎_}
 use mathlib.Core.Bool.{Bool, true, false}
 use mathlib.Core.List.{List}
 use lib.ListN.{length, getD}
 use Rattle.replay_protection.specs.Replay.{refuses}
 use Rattle.replay_protection.specs.Ours.{width, windowOf}
 use Rattle.bodies.specs.declared.PacketType.{PacketType}
+use Rattle.bodies.specs.declared.Packet.{Packet}
+use Rattle.bodies.specs.declared.challenge.ChallengeToken.{ChallengeToken}
 use Rattle.bodies.specs.Kinds.{numberOf, windowed, isRequest}
-use Rattle.bodies.specs.Bodies.{wants, least}
+use Rattle.bodies.specs.Bodies.{kindOf, wants, least}
+use Rattle.asks.specs.declared.PrivateKey.{PrivateKey}
+use Rattle.asks.specs.Asks.{noAsk}
+use Rattle.encode.specs.declared.Encoding.the-variants as encoding
+use Rattle.encode.specs.declared.Sealing.the-variants as sealing
+use Rattle.encode.specs.Encodes.{encodedAs, refusedBy, need, encode, answerSeal}
+use Rattle.encode.specs.Generates.{generateChallenge}
 use Rattle.decode.specs.declared.Guard.{Guard}
-use Rattle.encode.specs.Encodes.{need}
-use Rattle.decode.specs.Decodes.{countOf, sequenceOf}
+use Rattle.decode.specs.declared.Decoding.the-variants as decoding
+use Rattle.decode.specs.declared.Opening.the-variants as opening
+use Rattle.decode.specs.declared.Proving.the-variants as proving
+use Rattle.decode.specs.declared.ProofOpening.the-variants as proof
+use Rattle.decode.specs.Decodes.{decodedAs, ended, countOf, sequenceOf, guardAccepts, decode, answerOpen}
+use Rattle.decode.specs.Challenges.{unproved, decodeChallenge, answerChallenge}
 
 -- each follows from the other
 abbrev pub Iff : Type 0 → Type 0 → Type 0
@@ -87,3 +99,45 @@ pub data EncodeSays (room : ℕ) (kind : PacketType) (given : ℕ) (keyed : Bool
 pub data SealSays (end len room : ℕ) (granted : Bool) : ℕ → Type 0 where
   seals-18 : (Lent end 0 len room → ⊥) → SealSays end len room granted 18
   seals-24 : Lent end 0 len room → granted ≡ false → SealSays end len room granted 24
+
+-- ---- the challenge token: 14 where it is written, 9 where it is to be opened, 18 and 8 for the host's answer (17 where none is open)
+
+pub data ProofSays (at len room : ℕ) (granted : Bool) : ℕ → Type 0 where
+  proves-18 : (Lent at 300 len room → ⊥) → ProofSays at len room granted 18
+  proves-8 : Lent at 300 len room → granted ≡ false → ProofSays at len room granted 8
+
+-- ---- the one statement: by these numbers and for these reasons, and what each leaves
+
+pub record Refusals : Type 0 where
+  -- decode; a refusal leaves the window, asks for nothing and leaves no ask open
+  pub decodes : (d : List ℕ) (protocol : ℕ) (key : PrivateKey) (guard : Guard) (n : ℕ)
+      → Iff (decode d protocol key guard .answer ≡ decoding.Refused n) (DecodeSays d (key .given) guard n)
+  pub decodes-nothing : (d : List ℕ) (protocol : ℕ) (key : PrivateKey) (guard : Guard) (n : ℕ)
+      → decode d protocol key guard .answer ≡ decoding.Refused n → decode d protocol key guard ≡ ended (decoding.Refused n) guard
+  -- the host's answer to an ask to open: none open, 17; by 18 the ask stays open; a no leaves the window; a yes has moved it before 9
+  pub opens-none : (d : List ℕ) (guard : Guard) (granted : Bool) → answerOpen opening.Closed d guard granted ≡ ended (decoding.Refused 17) guard
+  pub opens : (kind : PacketType) (sequence start len : ℕ) (d : List ℕ) (guard : Guard) (granted : Bool) (n : ℕ)
+      → Iff (answerOpen (opening.Open kind sequence start len) d guard granted .answer ≡ decoding.Refused n) (OpenSays kind start len (length d) granted n)
+  pub opens-stays : (kind : PacketType) (sequence start len : ℕ) (d : List ℕ) (guard : Guard) (granted : Bool) → (Lent start 16 len (length d) → ⊥)
+      → answerOpen (opening.Open kind sequence start len) d guard granted ≡ decodedAs (decoding.Refused 18) noAsk (opening.Open kind sequence start len) guard
+  pub opens-no : (kind : PacketType) (sequence start len : ℕ) (d : List ℕ) (guard : Guard) → answerOpen (opening.Open kind sequence start len) d guard false .guard ≡ guard
+  pub opens-yes : (kind : PacketType) (sequence start len : ℕ) (d : List ℕ) (guard : Guard) → Lent start 16 len (length d)
+      → answerOpen (opening.Open kind sequence start len) d guard true .guard ≡ guardAccepts kind guard sequence
+  -- encode; a refusal leaves the buffer
+  pub encodes : (out : List ℕ) (packet : Packet) (bytes : List ℕ) (protocol : ℕ) (key : PrivateKey) (sequence n : ℕ)
+      → Iff (encode out packet bytes protocol key sequence .encoded .answer ≡ encoding.Refused n) (EncodeSays (length out) (kindOf packet) (length bytes) (key .given) sequence n)
+  pub encodes-nothing : (out : List ℕ) (packet : Packet) (bytes : List ℕ) (protocol : ℕ) (key : PrivateKey) (sequence n : ℕ)
+      → encode out packet bytes protocol key sequence .encoded .answer ≡ encoding.Refused n → encode out packet bytes protocol key sequence .out ≡ out
+  -- the host's answer to an ask to seal
+  pub seals-none : (room : ℕ) (granted : Bool) → answerSeal sealing.Closed room granted ≡ refusedBy 17
+  pub seals : (end len room : ℕ) (granted : Bool) (n : ℕ) → Iff (answerSeal (sealing.Open end len) room granted .answer ≡ encoding.Refused n) (SealSays end len room granted n)
+  pub seals-stays : (end len room : ℕ) (granted : Bool) → (Lent end 0 len room → ⊥)
+      → answerSeal (sealing.Open end len) room granted ≡ encodedAs (encoding.Refused 18) noAsk (sealing.Open end len)
+  -- the challenge token
+  pub generates : (out : List ℕ) (at : ℕ) (t : ChallengeToken) (sequence : ℕ) (key : List ℕ) (n : ℕ)
+      → Iff (generateChallenge out at t sequence key .encoded .answer ≡ encoding.Refused n) ((n ≡ 14) × (length out < at + 300))
+  pub generates-nothing : (out : List ℕ) (at : ℕ) (t : ChallengeToken) (sequence : ℕ) (key : List ℕ) → length out < at + 300 → generateChallenge out at t sequence key .out ≡ out
+  pub demands : (room at sequence : ℕ) (key : List ℕ) (n : ℕ) → Iff (decodeChallenge room at sequence key .answer ≡ proving.Refused n) ((n ≡ 9) × (room < at + 300))
+  pub proves-none : (src : List ℕ) (granted : Bool) → answerChallenge proof.Closed src granted ≡ unproved 17 proof.Closed
+  pub proves : (at len : ℕ) (src : List ℕ) (granted : Bool) (n : ℕ) → Iff (answerChallenge (proof.Open at len) src granted .answer ≡ proving.Refused n) (ProofSays at len (length src) granted n)
+  pub proves-stays : (at len : ℕ) (src : List ℕ) (granted : Bool) → (Lent at 300 len (length src) → ⊥) → answerChallenge (proof.Open at len) src granted ≡ unproved 18 (proof.Open at len)
