@@ -1,2 +1,1 @@
 pub mod Figures
-pub mod Verdict

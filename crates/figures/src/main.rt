@@ -3,8 +3,6 @@
 ghost use Prim.Native.Nat.{_≤_};
 use libc::STDOUT_FILENO;
 
-mod print;
-
 // The head that the writer makes of a type and a sequence.
 fn head(name: &[u8], kind: u8, sequence: u64, want: &[u8]) -> u32
     ensures { λ r. ⌜ r ≤ 1 ⌝ }

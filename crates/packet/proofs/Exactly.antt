@@ -369,11 +369,12 @@ module _ (end len : ℕ) (room : ℕ) (granted : Bool) where
 module _ (out : List ℕ) (at : ℕ) (t : ChallengeToken) (sequence : ℕ) (key : List ℕ) where
   generate-exactly : (n : ℕ) → Iff (generateChallenge out at t sequence key .encoded .answer ≡ encoding.Refused n) ((n ≡ 14) × (length out < at + 300))
   unfolding generateChallenge pick
-  generate-exactly n =
-      ((λ e. by-test (ltb (length out) (at + 300))
-      (λ u. (sym (same-refusal (simp u at e)), ltb-true (length out) (at + 300) u))
-      (λ u. absurd (not-asked-seal (simp u at e)))),
-      (λ p. simp (lt-ltb (length out) (at + 300) (p .1)) (ap encoding.Refused (sym (p .0)))))
+  generate-exactly n = (
+    (λ e. by-test (ltb (length out) (at + 300))
+        (λ u. (sym (same-refusal (simp u at e)), ltb-true (length out) (at + 300) u))
+        (λ u. absurd (not-asked-seal (simp u at e)))),
+    (λ p. simp (lt-ltb (length out) (at + 300) (p .1)) (ap encoding.Refused (sym (p .0)))),
+  )
 
   generate-keeps : length out < at + 300 → generateChallenge out at t sequence key .out ≡ out
   unfolding generateChallenge pick
@@ -381,11 +382,12 @@ module _ (out : List ℕ) (at : ℕ) (t : ChallengeToken) (sequence : ℕ) (key 
 
 demand-exactly : (room at sequence : ℕ) (key : List ℕ) (n : ℕ) → Iff (decodeChallenge room at sequence key .answer ≡ proving.Refused n) ((n ≡ 9) × (room < at + 300))
 unfolding decodeChallenge pick
-demand-exactly room at sequence key n =
-    ((λ e. by-test (ltb room (at + 300))
-    (λ u. (sym (same-proof (simp u at e)), ltb-true room (at + 300) u))
-    (λ u. absurd (not-asked-proof (simp u at e)))),
-    (λ p. simp (lt-ltb room (at + 300) (p .1)) (ap proving.Refused (sym (p .0)))))
+demand-exactly room at sequence key n = (
+  (λ e. by-test (ltb room (at + 300))
+      (λ u. (sym (same-proof (simp u at e)), ltb-true room (at + 300) u))
+      (λ u. absurd (not-asked-proof (simp u at e)))),
+  (λ p. simp (lt-ltb room (at + 300) (p .1)) (ap proving.Refused (sym (p .0)))),
+)
 
 module _ (at len : ℕ) (src : List ℕ) (granted : Bool) where
   proves-given : (n : ℕ) → ProofSays at len (length src) granted n → answerProof at len src granted .answer ≡ proving.Refused n

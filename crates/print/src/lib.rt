@@ -3,7 +3,7 @@ ghost use mathlib.Core.Path.{_≡_};
 ghost use Prim.Native.Nat.{_≤_, _<_};
 ghost use lib.Dec.{eqb};
 ghost use Rattle.serialize.specs.Runs.{alike};
-ghost use Rattle.figures.specs.Verdict.{bit};
+ghost use Rattle.print.specs.Verdict.{bit};
 use libc::STDOUT_FILENO;
 
 // The digit of n, in hexadecimal.

@@ -2,8 +2,8 @@
 use Prim.Native.Nat.{_≤_, _-_}
 use lib.ListN.{length}
 use borrow.Author.Needs.{needs}
-use Rattle.figures.proofs.print.hex.Statement.{statement}
-use Rattle.figures.proofs.print.hex.Tie as tie
+use Rattle.print.proofs.hex.Statement.{statement}
+use Rattle.print.proofs.hex.Tie as tie
 
 abbrev Inv-loop : tie.InvT-loop
 Inv-loop s i₀ i = i ≤ length s

@@ -2,9 +2,9 @@
 -- no promise can speak of.
 use mathlib.Core.Path.{_≡_}
 use Rattle.serialize.proofs.Determined.{coincide}
-use Rattle.figures.proofs.print.bytes.Reads as bytes
-use Rattle.figures.proofs.print.number.Reads as number
-use Rattle.figures.proofs.print.refused.Reads as refused
+use Rattle.print.proofs.bytes.Reads as bytes
+use Rattle.print.proofs.number.Reads as number
+use Rattle.print.proofs.refused.Reads as refused
 
 pub bytes-determined : (κs : _) (a : _) (x y : _) (e f : _) → bytes.Post κs a x e → bytes.Post κs a y f → x ≡ y
 bytes-determined κs a x y e f p q = coincide (p .0) (q .0)

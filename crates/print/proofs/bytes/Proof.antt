@@ -3,10 +3,10 @@ use mathlib.Core.Path.{refl, sym, ap, ap₂, _∙_}
 use lib.ListN.{length}
 use Rattle.serialize.specs.Runs.{alike}
 use Rattle.serialize.proofs.Lists.{part-whole, alike-lengths}
-use Rattle.figures.specs.Verdict.{bit}
+use Rattle.print.specs.Verdict.{bit}
 use borrow.Author.Needs.{needs}
-use Rattle.figures.proofs.print.bytes.Statement.{statement}
-use Rattle.figures.proofs.print.bytes.Tie as tie
+use Rattle.print.proofs.bytes.Statement.{statement}
+use Rattle.print.proofs.bytes.Tie as tie
 
 write-all-requires : tie.Need-write-all-requires
 write-all-requires c κs = search needs
