@@ -1,3 +1,4 @@
 pub mod RoundTrip
 pub mod TokenTrip
 pub mod Exactly
+pub mod Worked
