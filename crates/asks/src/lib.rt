@@ -4,6 +4,11 @@ ghost use Prim.Native.Nat.{_+_};
 ghost use lib.Dec.{ltb};
 ghost use Rattle.asks.specs.Asks.{noAsk, packetAsk, tokenAsk, unlike};
 
+// The figures of src/lib.rs that the cipher knows: the bytes of a key and of a tag.
+pub const NETCODE_KEY_BYTES: usize = 32;
+
+pub const NETCODE_MAC_BYTES: usize = 16;
+
 pub enum Work {
     Open,
     Seal,
@@ -13,7 +18,7 @@ pub enum Work {
 // a nonce, with the first `size` bytes of additional data: 22 for a packet, none for a challenge token.
 pub struct Ask {
     pub work: Work,
-    pub key: [u8; 32],
+    pub key: [u8; NETCODE_KEY_BYTES],
     pub nonce: [u8; 12],
     pub additional: [u8; 22],
     pub size: usize,
@@ -24,7 +29,7 @@ pub struct Ask {
 // A key that may be missing.
 pub struct PrivateKey {
     pub given: bool,
-    pub bytes: [u8; 32],
+    pub bytes: [u8; NETCODE_KEY_BYTES],
 }
 
 // Beside an answer that asks for nothing.
@@ -33,7 +38,7 @@ pub fn no_ask() -> Ask
 {
     Ask {
         work: Work::Open,
-        key: [0; 32],
+        key: [0; NETCODE_KEY_BYTES],
         nonce: [0; 12],
         additional: [0; 22],
         size: 0,
@@ -65,7 +70,7 @@ pub fn unlike(at: usize, n: usize, len: usize, room: usize) -> bool
 // The ask for a packet: the sequence is the nonce; version, protocol and prefix byte are the additional data.
 pub fn packet_ask(
     work: Work,
-    key: [u8; 32],
+    key: [u8; NETCODE_KEY_BYTES],
     sequence: u64,
     prefix_byte: u8,
     protocol_id: u64,
@@ -86,7 +91,13 @@ pub fn packet_ask(
 }
 
 // The ask for a challenge token: its own sequence is the nonce, and there is no additional data.
-pub fn token_ask(work: Work, key: [u8; 32], sequence: u64, start: usize, end: usize) -> Ask
+pub fn token_ask(
+    work: Work,
+    key: [u8; NETCODE_KEY_BYTES],
+    sequence: u64,
+    start: usize,
+    end: usize,
+) -> Ask
     ensures { λ r. ⌜ r ≡ tokenAsk work key sequence start end ⌝ }
 {
     Ask {

@@ -17,6 +17,15 @@ pub use reader::version_info;
 pub use reader::xnonce;
 pub use writer::write;
 
+// The figures of src/lib.rs that bodies are made of.
+pub const NETCODE_CHALLENGE_TOKEN_BYTES: usize = 300;
+
+pub const NETCODE_USER_DATA_BYTES: usize = 256;
+
+pub const NETCODE_CONNECT_TOKEN_XNONCE_BYTES: usize = 24;
+
+pub const NETCODE_CONNECT_TOKEN_PRIVATE_BYTES: usize = 1024;
+
 pub enum PacketType {
     ConnectionRequest,
     ConnectionDenied,

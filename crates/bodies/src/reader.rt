@@ -5,6 +5,9 @@ ghost use lib.ListN.{length};
 ghost use Rattle.serialize.specs.Runs.{part};
 ghost use Rattle.bodies.specs.Bodies.{least, numbers, readBody};
 use crate::Body;
+use crate::NETCODE_CHALLENGE_TOKEN_BYTES;
+use crate::NETCODE_CONNECT_TOKEN_PRIVATE_BYTES;
+use crate::NETCODE_CONNECT_TOKEN_XNONCE_BYTES;
 use crate::Packet;
 use crate::PacketType;
 
@@ -38,21 +41,21 @@ pub fn version_info(src: &[u8], at: usize) -> &[u8]
 pub fn xnonce(src: &[u8], at: usize) -> &[u8]
     ensures { λ r. ⌜ now r ≡ part (now (src .entry)) (at + 29) 24 ⌝ }
 {
-    field(src, at, 29, 24)
+    field(src, at, 29, NETCODE_CONNECT_TOKEN_XNONCE_BYTES)
 }
 
 // A request's private data.
 pub fn private_data(src: &[u8], at: usize) -> &[u8]
     ensures { λ r. ⌜ now r ≡ part (now (src .entry)) (at + 53) 1024 ⌝ }
 {
-    field(src, at, 53, 1024)
+    field(src, at, 53, NETCODE_CONNECT_TOKEN_PRIVATE_BYTES)
 }
 
 // The sealed token of a challenge or response.
 pub fn token_data(src: &[u8], at: usize) -> &[u8]
     ensures { λ r. ⌜ now r ≡ part (now (src .entry)) (at + 8) 300 ⌝ }
 {
-    field(src, at, 8, 300)
+    field(src, at, 8, NETCODE_CHALLENGE_TOKEN_BYTES)
 }
 
 // A payload: all of the body, from index at to end.

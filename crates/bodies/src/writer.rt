@@ -4,6 +4,7 @@ ghost use Prim.Native.Nat.{_+_, _≤_};
 ghost use lib.ListN.{length};
 ghost use Rattle.serialize.specs.Runs.{splice};
 ghost use Rattle.bodies.specs.Bodies.{kindOf, bodyLength, wants, requestBody, tokenBody, keepAliveBody, body};
+use crate::NETCODE_CHALLENGE_TOKEN_BYTES;
 use crate::Packet;
 
 // Version, protocol, expiry, nonce and private data; the first and the last two stand in bytes, one after the other.
@@ -23,7 +24,7 @@ fn write_token(out: &mut [u8], at: usize, token_sequence: u64, bytes: &[u8])
     ensures { λ _. ⌜ now (out .exit) ≡ splice (now (out .entry)) at (tokenBody «token_sequence» (now (bytes .entry))) ⌝ }
 {
     serialize::write_u64(out, at, token_sequence);
-    serialize::copy_bytes(out, at + 8, bytes, 0, 300);
+    serialize::copy_bytes(out, at + 8, bytes, 0, NETCODE_CHALLENGE_TOKEN_BYTES);
 }
 
 fn write_keep_alive(out: &mut [u8], at: usize, client_index: u32, max_clients: u32)

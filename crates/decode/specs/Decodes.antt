@@ -12,7 +12,6 @@ use Rattle.replay_protection.specs.declared.ReplayProtection.{ReplayProtection}
 use Rattle.replay_protection.specs.Replay.{refusal, arrive}
 use Rattle.replay_protection.specs.Ours.{width, windowOf, protection}
 use Rattle.bodies.specs.declared.PacketType.{PacketType}
-use Rattle.bodies.specs.declared.PacketType.the-variants.{ConnectionRequest}
 use Rattle.bodies.specs.declared.TypeRead.{TypeRead}
 use Rattle.bodies.specs.declared.TypeRead.the-variants.{Known, Invalid}
 use Rattle.bodies.specs.declared.Packet.{Packet}

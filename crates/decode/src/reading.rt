@@ -4,7 +4,7 @@ ghost use mathlib.Core.Bool.{_&&_};
 ghost use Prim.Native.Nat.{_≤_};
 ghost use lib.ListN.{length};
 ghost use Rattle.bodies.specs.Kinds.{windowed};
-ghost use Rattle.decode.specs.Decodes.{ended, decodedAs, typeAt, startAt, windowRefusal, guardRefusal, guardAccepts, readOpened, decodeAt, byStart, decodeSealed, decodeOf, decode, answerOpened, answerOpen};
+ghost use Rattle.decode.specs.Decodes.{ended, typeAt, startAt, windowRefusal, guardRefusal, guardAccepts, readOpened, decodeAt, byStart, decodeSealed, decodeOf, decode, answerOpened, answerOpen};
 use crate::Decoded;
 use crate::Decoding;
 use crate::Guard;
@@ -12,17 +12,22 @@ use crate::Kind;
 use crate::Opened;
 use crate::Opening;
 use crate::Start;
+use asks::NETCODE_KEY_BYTES;
+use asks::NETCODE_MAC_BYTES;
 use asks::PrivateKey;
 use asks::Work;
 use bodies::Body;
 use bodies::PacketType;
 use bodies::TypeRead;
 
+// The least that a datagram has, as the Rust tests it: refusal 1.
+const LEAST: usize = 2 + NETCODE_MAC_BYTES;
+
 // A datagram's type: 1 where it is under 18 bytes, 2 where there is no such type.
 pub fn read_type(datagram: &[u8]) -> Kind
     ensures { λ r. ⌜ r ≡ typeAt (now (datagram .entry)) ⌝ }
 {
-    if datagram.len() < 18 {
+    if datagram.len() < LEAST {
         return Kind::Refused(1);
     }
     let prefix_byte = datagram[0];
@@ -132,7 +137,7 @@ fn decode_at(
     datagram: &[u8],
     kind: PacketType,
     protocol_id: u64,
-    key: [u8; 32],
+    key: [u8; NETCODE_KEY_BYTES],
     sequence: u64,
     start: usize,
     guard: Guard,
@@ -145,7 +150,7 @@ fn decode_at(
         return ended(Decoding::Refused(refusal), guard);
     }
     let len = datagram.len();
-    if asks::past(len, start, 16) {
+    if asks::past(len, start, NETCODE_MAC_BYTES) {
         return ended(Decoding::Refused(7), guard);
     }
     let prefix_byte = datagram[0];
@@ -175,7 +180,7 @@ fn decode_keyed(
     datagram: &[u8],
     kind: PacketType,
     protocol_id: u64,
-    key: [u8; 32],
+    key: [u8; NETCODE_KEY_BYTES],
     guard: Guard,
 ) -> Decoded
     requires { ⌜ 18 ≤ length (now datagram) ⌝ }
@@ -246,7 +251,7 @@ fn answer_opened(
 ) -> Decoded
     ensures { λ r. ⌜ r ≡ answerOpened kind sequence start len (now (datagram .entry)) guard granted ⌝ }
 {
-    if asks::unlike(start, 16, len, datagram.len()) {
+    if asks::unlike(start, NETCODE_MAC_BYTES, len, datagram.len()) {
         return Decoded {
             answer: Decoding::Refused(18),
             ask: asks::no_ask(),
@@ -262,7 +267,7 @@ fn answer_opened(
     if granted {
         let accepted = guard_accepts(kind, guard, sequence);
         return ended(
-            read_opened(kind, sequence, datagram, start, len - 16),
+            read_opened(kind, sequence, datagram, start, len - NETCODE_MAC_BYTES),
             accepted,
         );
     }

@@ -5,13 +5,16 @@ ghost use Rattle.decode.specs.Challenges.{noToken, unproved, decodeChall
 use crate::Challenged;
 use crate::ProofOpening;
 use crate::Proving;
+use asks::NETCODE_KEY_BYTES;
 use asks::Work;
 use bodies::ChallengeToken;
+use bodies::NETCODE_CHALLENGE_TOKEN_BYTES;
+use bodies::NETCODE_USER_DATA_BYTES;
 
 fn no_token() -> ChallengeToken
     ensures { λ r. ⌜ r ≡ noToken ⌝ }
 {
-    ChallengeToken::new(0, [0; 256])
+    ChallengeToken::new(0, [0; NETCODE_USER_DATA_BYTES])
 }
 
 // An answer without a token.
@@ -31,17 +34,23 @@ pub fn decode_challenge(
     token_data: &[u8],
     at: usize,
     token_sequence: u64,
-    challenge_key: [u8; 32],
+    challenge_key: [u8; NETCODE_KEY_BYTES],
 ) -> Challenged
     ensures { λ r. ⌜ r ≡ decodeChallenge (length (now («token_data» .entry))) at «token_sequence» «challenge_key» ⌝ }
 {
     let room = token_data.len();
-    if asks::past(room, at, 300) {
+    if asks::past(room, at, NETCODE_CHALLENGE_TOKEN_BYTES) {
         return unproved(9, ProofOpening::Closed);
     }
     Challenged {
         answer: Proving::Asked,
-        ask: asks::token_ask(Work::Open, challenge_key, token_sequence, at, at + 300),
+        ask: asks::token_ask(
+            Work::Open,
+            challenge_key,
+            token_sequence,
+            at,
+            at + NETCODE_CHALLENGE_TOKEN_BYTES,
+        ),
         opening: ProofOpening::Open { at, len: room },
         token: no_token(),
     }
@@ -50,7 +59,7 @@ pub fn decode_challenge(
 fn answer_proof(at: usize, len: usize, token_data: &[u8], granted: bool) -> Challenged
     ensures { λ r. ⌜ r ≡ answerProof at len (now («token_data» .entry)) granted ⌝ }
 {
-    if asks::unlike(at, 300, len, token_data.len()) {
+    if asks::unlike(at, NETCODE_CHALLENGE_TOKEN_BYTES, len, token_data.len()) {
         return unproved(18, ProofOpening::Open { at, len });
     }
     if granted {

@@ -7,10 +7,11 @@ ghost use Rattle.serialize.specs.Runs.{splice};
 ghost use Rattle.prefix.specs.Head.{headBytes};
 ghost use Rattle.bodies.specs.Kinds.{numberOf, isRequest};
 ghost use Rattle.asks.specs.Asks.{noAsk};
-ghost use Rattle.encode.specs.Encodes.{done, encodedAs, refusedBy, shown, tagPlaces, bodyAt, need, unencodable, writtenAs, encode, answerSeal, answerSealOpen};
+ghost use Rattle.encode.specs.Encodes.{done, encodedAs, shown, tagPlaces, bodyAt, need, unencodable, writtenAs, encode, answerSeal, answerSealOpen};
 use crate::Encoded;
 use crate::Encoding;
 use crate::Sealing;
+use asks::NETCODE_MAC_BYTES;
 use asks::PrivateKey;
 use asks::Work;
 use bodies::Packet;
@@ -38,7 +39,11 @@ fn shown(kind: PacketType, sequence: u64) -> u64
 fn tag_places(kind: PacketType) -> usize
     ensures { λ r. ⌜ (r ≡ tagPlaces kind) × (r ≤ 16) ⌝ }
 {
-    if kind.is_request() { 0 } else { 16 }
+    if kind.is_request() {
+        0
+    } else {
+        NETCODE_MAC_BYTES
+    }
 }
 
 // Where the body starts.

@@ -1,36 +1,34 @@
 -- Each refusal is given exactly when document 01's table says: a line of the table decides the definition's tests up to its own, and
 -- the tests, taken one by one, always come to a line or to no refusal.
 use mathlib.Core.Path.{_≡_, refl, sym, ap, subst, _∙_}
-use mathlib.Core.Logic.{_⊎_, inl, inr, _≢_}
-use mathlib.Core.Bool.{Bool, true, false, not, _&&_, _||_}
-use Prim.Native.Nat.{ℕ, _+_, _-_, _%_, _/_, _^_, _≤_, _<_}
+use mathlib.Core.Logic.{inl, inr, _≢_}
+use mathlib.Core.Bool.{Bool, true, false, not, _&&_}
+use Prim.Native.Nat.{ℕ, _+_, _-_, _%_, _^_, _≤_, _<_}
 use native.Mathlib.Omega.{arith}
 use mathlib.Core.List.{List}
 use lib.ListN.{length, getD}
 use lib.Dec.{eqb, ltb, leb}
-use borrow.Author.Tests.{lt-ltb, le-ltb, lt-leb, le-leb, eq-eqb, ne-eqb, ltb-true, ltb-false, leb-true, leb-false, eqb-true, eqb-false}
+use borrow.Author.Tests.{lt-ltb, le-ltb, lt-leb, le-leb, eq-eqb, ne-eqb, ltb-true, ltb-false, leb-true, leb-false, eqb-false}
 use Rattle.serialize.specs.Choice.{pick}
 use Rattle.serialize.specs.Runs.{part}
 use Rattle.serialize.proofs.Choice.{by-test}
 use Rattle.serialize.proofs.Lists.{length-part}
-use Rattle.replay_protection.specs.Replay.{spent, refusalBy, refuses, refusal, placed}
+use Rattle.replay_protection.specs.Replay.{refusalBy, refuses, refusal}
 use Rattle.replay_protection.specs.Ours.{width, windowOf}
 use Rattle.bodies.specs.declared.PacketType.{PacketType}
 use Rattle.bodies.specs.declared.Packet.{Packet}
 use Rattle.bodies.specs.declared.challenge.ChallengeToken.{ChallengeToken}
 use Rattle.bodies.specs.declared.TypeRead.{TypeRead}
 use Rattle.bodies.specs.declared.TypeRead.the-variants.{Known, Invalid}
-use Rattle.bodies.specs.declared.Body.the-variants.{Whole, Short}
-use Rattle.bodies.specs.Kinds.{numberOf, typeOf, windowed, isRequest}
+use Rattle.bodies.specs.declared.Body.the-variants.{Whole}
+use Rattle.bodies.specs.Kinds.{typeOf, windowed, isRequest}
 use Rattle.bodies.specs.Bodies.{kindOf, least, wants, numbers, readBody}
 use Rattle.bodies.proofs.Back.{type-reads-back, typed-number, untyped-number, number-untyped, request-least}
 use Rattle.asks.specs.declared.PrivateKey.{PrivateKey}
 use Rattle.decode.specs.declared.Guard.{Guard}
 use Rattle.decode.specs.declared.Opened.{Opened}
 use Rattle.decode.specs.declared.Decoded.{Decoded}
-use Rattle.decode.specs.declared.Decoding.{Decoding}
 use Rattle.decode.specs.declared.Decoding.the-variants as decoding
-use Rattle.encode.specs.declared.Encoding.{Encoding}
 use Rattle.encode.specs.declared.Encoding.the-variants as encoding
 use Rattle.decode.specs.declared.Opening.the-variants as opening
 use Rattle.decode.specs.declared.Proving.the-variants as proving
@@ -40,7 +38,7 @@ use Rattle.asks.specs.Asks.{noAsk, unlike}
 use Rattle.encode.specs.Encodes.{Done, done, encodedAs, refusedBy, need, unencodable, writtenAs, encode, answerSealOpen, answerSeal}
 use Rattle.decode.specs.Decodes.{decodedAs, ended, typed, typeAt, countOf, sequenceOf, startAt, windowRefusal, guardRefusal, guardAccepts, byBody, readOpened, decodeAt, byStart, decodeSealed, decodeOf, byKind, decode, answerOpened, answerOpen}
 use Rattle.encode.specs.Generates.{generateChallenge}
-use Rattle.decode.specs.Challenges.{unproved, decodeChallenge, answerProof, answerChallenge}
+use Rattle.decode.specs.Challenges.{unproved, decodeChallenge, answerProof}
 use Rattle.packet.specs.Table.{Iff, Typed, Keyed, Passes, DecodeSays, says-1, says-2, says-9, says-3, says-4, says-5, says-6, says-7, Lent, OpenSays, opens-18, opens-8, opens-9, MayWrite, EncodeSays, encodes-3, encodes-14, encodes-9, SealSays, seals-18, seals-24, ProofSays, proves-18, proves-8, Refusals}
 use Rattle.asks.proofs.Lent.{like-means}
 use Rattle.encode.proofs.Ways.{lacks-key, lacks-room, lacks-bytes, lacks-nothing}

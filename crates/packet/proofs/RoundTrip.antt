@@ -1,19 +1,19 @@
 -- What encode writes and an honest host seals, decode reads back: head, sealed part and text stand where each side looks for them.
 use mathlib.Core.Path.{_≡_, refl, sym, ap, ap₂, subst, subst⁻¹, _∙_}
 use mathlib.Core.Bool.{Bool, true, false, not, _&&_}
-use Prim.Native.Nat.{ℕ, _+_, _-_, _*_, _/_, _%_, _^_, _≤_, _<_}
+use Prim.Native.Nat.{ℕ, _+_, _-_, _%_, _^_, _≤_, _<_}
 use native.Mathlib.Nat.{add-zero}
 use native.Mathlib.Omega.{arith}
-use mathlib.Core.List.{List, [], _∷_, _++_}
-use lib.ListN.{length, take, drop, getD, length-append}
+use mathlib.Core.List.{List, _∷_, _++_}
+use lib.ListN.{length, take, length-append}
 use lib.Seq.{take-at}
 use lib.Dec.{eqb}
-use borrow.Author.Tests.{lt-ltb, le-ltb, eq-eqb, ne-eqb, eqb-true}
+use borrow.Author.Tests.{lt-ltb, le-ltb, eq-eqb, eqb-true}
 use Rattle.serialize.specs.Choice.{pick}
 use Rattle.serialize.specs.Runs.{part, splice}
 use Rattle.serialize.specs.Le.{ofLe, toLe}
 use Rattle.serialize.proofs.Choice.{by-test}
-use Rattle.serialize.proofs.Lists.{length-part, part-whole, part-left, part-right, length-splice, part-splice-in, part-splice-same, splice-splice, splice-over}
+use Rattle.serialize.proofs.Lists.{part-whole, part-right, length-splice, part-splice-in, part-splice-same, splice-splice, splice-over}
 use Rattle.serialize.proofs.Le.{length-toLe, ofLe-toLe}
 use Rattle.prefix.specs.Head.{fewest, prefixByte, headBytes}
 use Rattle.prefix.specs.Sealed.{additionalData, packetNonce}
@@ -22,25 +22,24 @@ use Rattle.bodies.specs.declared.PacketType.{PacketType}
 use Rattle.bodies.specs.declared.PacketType.the-variants as kind
 use Rattle.bodies.specs.declared.Packet.{Packet}
 use Rattle.bodies.specs.declared.Packet.the-variants.{ConnectionRequest}
-use Rattle.bodies.specs.declared.TypeRead.the-variants.{Known}
 use Rattle.bodies.specs.declared.Body.the-variants.{Whole}
 use Rattle.bodies.specs.Kinds.{numberOf, typeOf, isRequest}
-use Rattle.bodies.specs.Bodies.{kindOf, wants, takes, bodyLength, Ranged, body, beside, readBody}
+use Rattle.bodies.specs.Bodies.{kindOf, wants, bodyLength, Ranged, body, beside, readBody}
 use Rattle.bodies.proofs.Back.{length-body, type-reads-back, body-reads-back, beside-reads-back}
-use Rattle.asks.specs.declared.Ask.{Ask}
 use Rattle.decode.specs.declared.Guard.{Guard}
+use Rattle.asks.specs.declared.Ask.{Ask}
 use Rattle.asks.specs.declared.PrivateKey.{PrivateKey}
 use Rattle.asks.specs.declared.Work.the-variants as work
 use Rattle.decode.specs.declared.Decoding.the-variants as decoding
 use Rattle.decode.specs.declared.Opening.the-variants as opening
 use Rattle.decode.specs.declared.Kind.the-variants as kindly
 use Rattle.decode.specs.declared.Start.the-variants as starting
-use Rattle.decode.specs.Decodes.{decodedAs, ended, typed, typeAt, countOf, sequenceOf, startAt, guardRefusal, guardAccepts, opened, byBody, readOpened, decodeAt, byStart, decodeSealed, decodeOf, byKind, decode, answerOpened, answerOpen}
+use Rattle.decode.specs.Decodes.{decodedAs, ended, typed, typeAt, countOf, sequenceOf, startAt, guardRefusal, guardAccepts, opened, readOpened, decodeAt, byStart, decodeSealed, decodeOf, byKind, decode, answerOpened, answerOpen}
 use Rattle.asks.specs.Asks.{noAsk, packetAsk}
 use Rattle.encode.specs.declared.Encoding.the-variants as encoding
 use Rattle.encode.specs.declared.Sealing.the-variants as sealing
-use Rattle.encode.specs.Encodes.{Done, done, encodedAs, shown, tagPlaces, bodyAt, need, clear, unencodable, writtenAs, encode}
-use Rattle.packet.specs.Hosts.{Host, Yes, sealedIn, saidOf, openedIn, sent, ReadBack}
+use Rattle.encode.specs.Encodes.{Done, done, encodedAs, shown, tagPlaces, need, unencodable, writtenAs, encode}
+use Rattle.packet.specs.Hosts.{Host, sent, ReadBack}
 use Rattle.encode.proofs.Ways.{lacks-nothing, encodable}
 
 -- ---- a datagram: a head of a type and a sequence, and what follows it
@@ -247,25 +246,31 @@ module _ (h : Host) (out : List ℕ) (packet : Packet) (bytes : List ℕ) (proto
   -- for every type and sequence: a datagram of 18 bytes or more whose sequence the window does not refuse is read back
   pub round-trip : (guard : Guard) → Ranged packet → sequence < 256 ^ 8 → guardRefusal (kindOf packet) guard sequence ≡ 0
       → 18 ≤ length (sent h (encode out packet bytes protocol key sequence))
-      → ReadBack h packet bytes protocol key sequence guard (sent h (encode out packet bytes protocol key sequence))
+      → ReadBack h packet bytes protocol key sequence guard (encode out packet bytes protocol key sequence .encoded .ask) (sent h (encode out packet bytes protocol key sequence))
   unfolding sealOf
   round-trip guard ranged below passes long =
       let kind : PacketType = kindOf packet in
       let start : ℕ = 1 + fewest sequence in
+      let end : ℕ = start + bodyLength kind (length bytes) + 16 in
+      let p : ℕ = prefixByte (numberOf kind) (fewest sequence) in
       let d : List ℕ = headBytes (numberOf kind) sequence ++ sealOf in
       let text : List ℕ = body packet bytes in
       let (request, rest) = asked-means in
       let t : length sealOf ≡ length text + 16 = length-seal in
+      let b : length text ≡ bodyLength kind (length bytes) = length-body packet bytes (rest .1 .1) in
       let n : length d ≡ start + length sealOf = length-datagram kind sequence sealOf in
-      let here : part d start (length d - start) ≡ sealOf = seal-there kind sequence sealOf in
-      subst⁻¹ (λ (x : List ℕ). ReadBack h packet bytes protocol key sequence guard x) sent-is
+      let ends : length d ≡ end = omega arith in
+      let here : part d start (end - start) ≡ sealOf = ap (λ (i : ℕ). part d start (i - start)) (sym ends) ∙ seal-there kind sequence sealOf in
+      subst⁻¹ (λ (x : List ℕ). ReadBack h packet bytes protocol key sequence guard (encode out packet bytes protocol key sequence .encoded .ask) x) sent-is
+      (subst⁻¹ (λ (a : Ask). ReadBack h packet bytes protocol key sequence guard a d) (ap (λ (x : Done). x .encoded .ask) encode-asks)
       (record {
-        ask = packetAsk work.Open (key .bytes) sequence (prefixByte (numberOf kind) (fewest sequence)) protocol start (length d);
-        asks = reads-asks kind sequence sealOf protocol key guard (rw sent-is at long) below (omega arith) request (rest .0) passes;
-        agrees = ap (h .opens (key .bytes) (packetNonce sequence) (take 22 (additionalData (prefixByte (numberOf kind) (fewest sequence)) protocol))) here ∙ h .honest _ _ _ text;
+        asks =
+            reads-asks kind sequence sealOf protocol key guard (rw sent-is at long) below (omega arith) request (rest .0) passes
+            ∙ ap (λ (i : ℕ). decodedAs decoding.Asked (packetAsk work.Open (key .bytes) sequence p protocol start i) (opening.Open kind sequence start (length d)) guard) ends;
+        agrees = ap (h .opens (key .bytes) (packetNonce sequence) (take 22 (additionalData p protocol))) here ∙ h .honest _ _ _ text;
         reads = reads-text kind sequence sealOf guard text packet t (body-reads-back packet bytes ranged (rest .1 .1));
         holds = ap (beside kind) (text-there kind sequence sealOf text t) ∙ beside-reads-back packet bytes (rest .1 .1);
-      })
+      }))
 
   -- a datagram of fewer has 17, and is refused as 1: that is a packet with an empty body at sequence 0, so a denied, a disconnect or a
   -- payload of no bytes; and each such packet comes to that

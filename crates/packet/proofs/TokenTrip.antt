@@ -1,5 +1,5 @@
 -- What generate_challenge writes and an honest host seals is opened and read back as the same token, where it stands.
-use mathlib.Core.Path.{_≡_, sym, ap, ap₂, _∙_}
+use mathlib.Core.Path.{_≡_, ap, ap₂, _∙_}
 use mathlib.Core.Bool.{true}
 use Prim.Native.Nat.{ℕ, _+_, _-_, _^_, _≤_, _<_}
 use native.Mathlib.Omega.{arith}
@@ -11,7 +11,7 @@ use Rattle.serialize.specs.Runs.{part, splice, zeros}
 use Rattle.serialize.proofs.Lists.{length-splice, part-splice-same, splice-over}
 use Rattle.prefix.specs.Sealed.{packetNonce}
 use Rattle.bodies.specs.declared.challenge.ChallengeToken.{ChallengeToken}
-use Rattle.bodies.specs.Tokens.{tokenClear, tokenAt}
+use Rattle.bodies.specs.Tokens.{tokenClear}
 use Rattle.bodies.proofs.Back.{length-clear, token-reads-back}
 use Rattle.asks.specs.declared.Work.the-variants as work
 use Rattle.asks.specs.Asks.{noAsk, tokenAsk}

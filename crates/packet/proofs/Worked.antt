@@ -3,7 +3,7 @@ use mathlib.Core.Path.{_≡_, refl, ap, _∙_}
 use mathlib.Core.Bool.{true}
 use Prim.Native.Nat.{ℕ, _+_, _-_}
 use native.Mathlib.Omega.{arith}
-use mathlib.Core.List.{List, [], _++_}
+use mathlib.Core.List.{[], _++_}
 use lib.ListN.{length, take, length-append}
 use lib.Seq.{take-at}
 use Rattle.serialize.specs.Choice.{pick}
@@ -39,7 +39,7 @@ abbrev freshGuard : Guard
 freshGuard = guarding true (protection (fresh width))
 
 -- slot 3 of 8, protocol 7, sequence 0, a fresh window, a buffer of the 25 bytes that it needs
-pub worked : ReadBack plain (KeepAlive 3 8) [] 7 someKey 0 freshGuard (sent plain (encode (zeros 25) (KeepAlive 3 8) [] 7 someKey 0))
+pub worked : ReadBack plain (KeepAlive 3 8) [] 7 someKey 0 freshGuard (encode (zeros 25) (KeepAlive 3 8) [] 7 someKey 0 .encoded .ask) (sent plain (encode (zeros 25) (KeepAlive 3 8) [] 7 someKey 0))
 unfolding pick firstFrom fewest encode writtenAs unencodable shown tagPlaces guardRefusal windowRefusal refusalBy spent behind repeated fresh
 worked =
     round-trip plain (zeros 25) (KeepAlive 3 8) [] 7 someKey 0 refl freshGuard (omega arith, omega arith) (omega arith) refl

@@ -9,6 +9,7 @@ use Rattle.serialize.specs.Runs.{part, splice}
 use Rattle.bodies.specs.declared.Packet.{Packet}
 use Rattle.bodies.specs.Bodies.{kindOf, takes, body, beside}
 use Rattle.asks.specs.declared.Ask.{Ask}
+use Rattle.asks.specs.declared.Work.the-variants as work
 use Rattle.asks.specs.declared.PrivateKey.{PrivateKey}
 use Rattle.decode.specs.declared.Guard.{Guard}
 use Rattle.decode.specs.declared.Decoding.the-variants.{Asked, Read}
@@ -47,15 +48,18 @@ openedIn a d text = splice d (a .start) text
 abbrev pub sent : Host → Done → List ℕ
 sent h e = part (sealedIn h (e .encoded .ask) (e .out)) 0 (e .encoded .ask .end)
 
--- a datagram d with a packet's sequence is read back as that packet, its bytes beside it
-pub record ReadBack (h : Host) (packet : Packet) (bytes : List ℕ) (protocol : ℕ) (key : PrivateKey) (sequence : ℕ) (guard : Guard) (d : List ℕ) : Type 0 where
-  pub ask : Ask
-  -- decode asks to open it; the window is as it was
-  pub asks : decode d protocol key guard ≡ decodedAs Asked ask (Open (kindOf packet) sequence (ask .start) (length d)) guard
+-- the same ask, to open
+abbrev pub reopened : Ask → Ask
+reopened a = record { work = work.Open; key = a .key; nonce = a .nonce; additional = a .additional; size = a .size; start = a .start; end = a .end }
+
+-- a datagram d that was sealed by ask a is read back as its packet, under its sequence, with its bytes beside it
+pub record ReadBack (h : Host) (packet : Packet) (bytes : List ℕ) (protocol : ℕ) (key : PrivateKey) (sequence : ℕ) (guard : Guard) (a : Ask) (d : List ℕ) : Type 0 where
+  -- decode asks to open what was sealed, under the same key, nonce and additional data; the window is as it was
+  pub asks : decode d protocol key guard ≡ decodedAs Asked (reopened a) (Open (kindOf packet) sequence (a .start) (length d)) guard
   -- the host says yes
-  pub agrees : saidOf h ask d ≡ Yes (body packet bytes)
+  pub agrees : saidOf h (reopened a) d ≡ Yes (body packet bytes)
   -- and its answer gives the packet with its sequence, and the window with the sequence accepted
-  pub reads : answerOpen (Open (kindOf packet) sequence (ask .start) (length d)) (openedIn ask d (body packet bytes)) guard true
-      ≡ ended (Read (opened sequence packet (ask .start) (length d - 16))) (guardAccepts (kindOf packet) guard sequence)
+  pub reads : answerOpen (Open (kindOf packet) sequence (a .start) (length d)) (openedIn (reopened a) d (body packet bytes)) guard true
+      ≡ ended (Read (opened sequence packet (a .start) (length d - 16))) (guardAccepts (kindOf packet) guard sequence)
   -- the body's place holds the bytes beside it
-  pub holds : beside (kindOf packet) (part (openedIn ask d (body packet bytes)) (ask .start) (length d - 16 - ask .start)) ≡ part bytes 0 (takes (kindOf packet) (length bytes))
+  pub holds : beside (kindOf packet) (part (openedIn (reopened a) d (body packet bytes)) (a .start) (length d - 16 - a .start)) ≡ part bytes 0 (takes (kindOf packet) (length bytes))
