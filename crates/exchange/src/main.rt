@@ -57,6 +57,45 @@ fn say(text: &[u8]) {
     io::write_all(STDOUT_FILENO, text);
 }
 
+// The text between the lines, each in a function of its own.
+fn first_step() {
+    say(
+        b"1. A keep-alive, slot 3 of 8, is encoded for protocol 7 under sequence 0, into 26 bytes AA.\n",
+    );
+}
+
+fn seal_asked() {
+    say(b"   The library asks the host to seal:\n");
+}
+
+fn second_step() {
+    say(b"2. The host seals in place and says yes.\n");
+}
+
+fn third_step() {
+    say(b"3. The 25 bytes arrive where the window is fresh, and are decoded.\n");
+}
+
+fn open_asked() {
+    say(b"   The library asks the host to open:\n");
+}
+
+fn fourth_step() {
+    say(b"4. Had the host said no, or lent other bytes:\n");
+}
+
+fn fifth_step() {
+    say(b"5. The host opens in place and says yes.\n");
+}
+
+fn sixth_step() {
+    say(b"6. A disconnect has no body.\n");
+}
+
+fn seventh_step() {
+    say(b"7. A request needs no key, and 1,078 bytes.\n");
+}
+
 // The lines that hold so far; no count here is near the end of its range.
 fn plus(a: u32, b: u32) -> u32 {
     std::num::wrapping_add_u32(a, b)
@@ -129,9 +168,7 @@ fn asked(ask: Ask) -> u32 {
 
 // A keep-alive, encoded into a buffer of 26 bytes AA and sealed.
 fn encodes() -> u32 {
-    say(
-        b"1. A keep-alive, slot 3 of 8, is encoded for protocol 7 under sequence 0, into 26 bytes AA.\n",
-    );
+    first_step();
     let mut out = [0xaau8; 26];
     let packet = Packet::KeepAlive {
         client_index: 3,
@@ -143,10 +180,10 @@ fn encodes() -> u32 {
         &out,
         b"\x04\x03\x00\x00\x00\x08\x00\x00\x00\xaa\xaa\xaa\xaa\xaa\xaa\xaa\xaa\xaa\xaa\xaa\xaa\xaa\xaa\xaa\xaa\xaa",
     );
-    say(b"   The library asks the host to seal:\n");
+    seal_asked();
     let ask = first.ask;
     let b = asked(ask);
-    say(b"2. The host seals in place and says yes.\n");
+    second_step();
     serialize::copy_bytes(&mut out, 1, &SEALED, 0, 24);
     let sealing = first.sealing;
     let last = encode::answer_seal(sealing, &out, true);
@@ -180,16 +217,16 @@ fn arrives(guard: Guard) -> Decoded {
 }
 
 fn decodes() -> u32 {
-    say(b"3. The 25 bytes arrive where the window is fresh, and are decoded.\n");
+    third_step();
     let first = arrives(fresh());
-    say(b"   The library asks the host to open:\n");
+    open_asked();
     let ask = first.ask;
     asked(ask)
 }
 
 // What the host might have answered.
 fn refuses() -> u32 {
-    say(b"4. Had the host said no, or lent other bytes:\n");
+    fourth_step();
     let first = arrives(fresh());
     let opening = first.opening;
     let guard = first.guard;
@@ -212,7 +249,7 @@ fn refuses() -> u32 {
 
 // What it does answer; and the same datagram once more.
 fn reads() -> u32 {
-    say(b"5. The host opens in place and says yes.\n");
+    fifth_step();
     let first = arrives(fresh());
     let opening = first.opening;
     let guard = first.guard;
@@ -230,7 +267,7 @@ fn reads() -> u32 {
 
 // The need of a disconnect: 17 bytes under sequence 0, which no reader takes, and 18 under 1.
 fn disconnects() -> u32 {
-    say(b"6. A disconnect has no body.\n");
+    sixth_step();
     let mut out = [0u8; 18];
     let zero = encode::encode(&mut out, Packet::Disconnect, b"", 7, with_key(), 0);
     let a = print::number(b" * under sequence 0 its length:", zero.ask.end as u64, 17);
@@ -250,7 +287,7 @@ fn disconnects() -> u32 {
 
 // Requests by their length.
 fn requests() -> u32 {
-    say(b"7. A request needs no key, and 1,078 bytes.\n");
+    seventh_step();
     let without = PrivateKey {
         given: false,
         bytes: [0; 32],

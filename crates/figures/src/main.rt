@@ -1,5 +1,5 @@
 // Document 01's figures, run: prints each, what came out of our functions, and whether it holds. Those marked * are proved as
-// well, together, in proofs/Figures.antt.
+// well, together, in crates/packet/proofs/Figures.antt.
 ghost use Prim.Native.Nat.{_≤_};
 use libc::STDOUT_FILENO;
 

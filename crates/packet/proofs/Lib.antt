@@ -2,3 +2,4 @@ pub mod RoundTrip
 pub mod TokenTrip
 pub mod Exactly
 pub mod Worked
+pub mod Figures

@@ -1,2 +1,3 @@
 pub mod Hosts
 pub mod Table
+pub mod Figures

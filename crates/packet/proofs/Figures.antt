@@ -12,7 +12,7 @@ use Rattle.bodies.specs.Kinds.{typeOf}
 use Rattle.bodies.specs.Bodies.{keepAliveBody, readBody}
 use Rattle.encode.specs.Encodes.{shown, tagPlaces, unencodable, writtenAs, encode}
 use Rattle.decode.specs.Decodes.{typeAt, startAt, windowRefusal, guardRefusal, readOpened, decodeAt, decodeSealed, decodeOf, decode, answerOpened}
-use Rattle.figures.specs.Figures.{Figures}
+use Rattle.packet.specs.Figures.{Figures}
 
 pub figures : Figures
 unfolding pick firstFrom toLe ofLe splice fewest additionalData run arrive advance refusalBy spent behind repeated fresh typeOf keepAliveBody readBody shown tagPlaces unencodable writtenAs encode typeAt startAt
