@@ -67,6 +67,7 @@ fn window_refusal(guard: Guard, sequence: u64) -> u8
     }
 }
 
+// The same for a packet of any type: 0 where no window guards it.
 pub fn guard_refusal(kind: PacketType, guard: Guard, sequence: u64) -> u8
     ensures { λ r. ⌜ r ≡ guardRefusal kind guard sequence ⌝ }
 {
