@@ -1,5 +1,5 @@
--- Document 01's table, "When the server says no", for encode, decode, the challenge token and the host's answers: each number with what it is given for,
--- after the lines that come before it in document 01's order have passed.
+-- Document 01's table, "When the server says no", for encode, decode, the challenge token and the host's answers: each number with what
+-- it is given for, after the lines that come before it in document 01's order have passed.
 use Prim.Native.Nat.{ℕ, _+_, _-_, _%_, _^_, _≤_, _<_}
 use mathlib.Core.Path.{_≡_}
 use mathlib.Core.Logic.{_⊎_}
