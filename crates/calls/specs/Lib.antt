@@ -1,0 +1,4 @@
+pub mod Desk
+pub mod Heads
+pub mod Packets
+pub mod Tokens
