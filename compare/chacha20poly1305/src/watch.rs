@@ -1,0 +1,57 @@
+//! Not in the real crate: what the cipher was asked on this thread, so that a harness can compare
+//! the asks of two programs and not only their results.
+
+use std::cell::{Cell, RefCell};
+
+#[derive(Debug, Clone, PartialEq, Eq)]
+pub struct Asked {
+    pub seal: bool,
+    pub key: [u8; 32],
+    /// 12 or 24 bytes.
+    pub nonce: Vec<u8>,
+    pub additional: Vec<u8>,
+    /// The buffer as it was handed in, without the tag.
+    pub text: Vec<u8>,
+    /// The tag to check, for an open only.
+    pub tag: Option<[u8; 16]>,
+    /// The buffer's address, so that a harness can tell its offset in a datagram.
+    pub place: usize,
+    pub granted: bool,
+}
+
+thread_local! {
+    static RECORDING: Cell<bool> = const { Cell::new(false) };
+    static REFUSING: Cell<bool> = const { Cell::new(false) };
+    static RECORD: RefCell<Vec<Asked>> = const { RefCell::new(Vec::new()) };
+}
+
+/// Empties the record and switches recording on.
+pub fn start() {
+    RECORD.take();
+    RECORDING.set(true);
+}
+
+/// Gives what was asked since `start` and switches recording off.
+pub fn take() -> Vec<Asked> {
+    RECORDING.set(false);
+    RECORD.take()
+}
+
+/// While on, every seal fails and leaves its buffer alone; the real crate does so only for texts
+/// that are too long to try.
+pub fn refuse_seals(on: bool) {
+    REFUSING.set(on);
+}
+
+#[cfg(not(feature = "idle"))]
+pub(crate) fn seals_are_refused() -> bool {
+    REFUSING.get()
+}
+
+/// Takes a closure so that nothing is allocated while recording is off.
+#[cfg(not(feature = "idle"))]
+pub(crate) fn note(ask: impl FnOnce() -> Asked) {
+    if RECORDING.get() {
+        RECORD.with_borrow_mut(|record| record.push(ask()));
+    }
+}

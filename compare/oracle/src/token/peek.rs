@@ -1,0 +1,3 @@
+pub fn get_additional_data(protocol: u64, expiry: u64) -> [u8; 29] {
+    super::get_additional_data(protocol, expiry)
+}

@@ -1,0 +1,17 @@
+//! Links our static library, `libcalls.a`, from where `rt staticlib calls` writes it or from OURS_LIB.
+
+use std::env;
+use std::path::PathBuf;
+
+fn main() {
+    println!("cargo:rerun-if-env-changed=OURS_LIB");
+    let folder = match env::var_os("OURS_LIB") {
+        Some(folder) => PathBuf::from(folder),
+        None => PathBuf::from(env::var_os("CARGO_MANIFEST_DIR").expect("cargo sets it"))
+            .join("../../target/staticlib"),
+    };
+    let archive = folder.join("libcalls.a");
+    println!("cargo:rerun-if-changed={}", archive.display());
+    println!("cargo:rustc-link-search=native={}", folder.display());
+    println!("cargo:rustc-link-lib=static=calls");
+}
