@@ -1,0 +1,8 @@
+//! Every row of docs/DIFFERENCES.md, by its number, on both sides. Where the two builds of the Rust
+//! differ, a row says both, and `checked` tells which one this is.
+
+mod common;
+mod heads;
+mod packets;
+mod shared;
+mod windows;
