@@ -79,11 +79,13 @@ fn compare(options: &Options) -> Result<(), String> {
     table.print();
     println!();
     outside(table);
+    let mut unreached = table.unreached();
     if let (Some(sample), Some(file)) = (&judge.sample, &options.sample) {
         println!("\n{}", sample.write(file)?);
+        unreached.extend(sample.uncovered(table));
     }
     println!();
-    match &table.unreached()[..] {
+    match &unreached[..] {
         [] => Ok(()),
         missing => Err(format!("not reached:\n  {}", missing.join("\n  "))),
     }

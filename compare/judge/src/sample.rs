@@ -7,6 +7,7 @@ use crate::case::{Call, Case, Window, EMPTY};
 use crate::check::{Did, Report, Verdict};
 use crate::lines;
 use crate::make::count_of;
+use crate::table::{Row, Table};
 
 /// What two cases share that are alike enough for one of them to stand for both.
 #[derive(Debug, Clone, Copy, PartialEq, Eq, PartialOrd, Ord)]
@@ -65,6 +66,22 @@ impl Sample {
             self.bytes += line.len() + 1;
             self.lines.push(line);
         }
+    }
+
+    /// The rows of the Rust's table that no line shows, in words. A token whose seal is refused has no
+    /// line: it is answered by the same call as a packet's.
+    pub fn uncovered(&self, table: &Table) -> Vec<String> {
+        let shown = |(call, did, kind): &Row| {
+            self.taken.iter().any(|(sort, taken)| {
+                let alike = kind.is_none() || sort.kind == *kind;
+                *taken > 0 && sort.call == *call && sort.did == *did && alike
+            })
+        };
+        let unlike = |row: &&Row| **row != (Call::Challenge, Did::Refused(24), None);
+        let missing = table.rust_rows().filter(unlike).filter(|row| !shown(row));
+        missing
+            .map(|row| format!("the sample has no line of {row:?}"))
+            .collect()
     }
 
     /// Writes the file and says how much that is.

@@ -5,7 +5,7 @@ use std::collections::BTreeMap;
 use crate::case::{Call, Case};
 use crate::check::{Beyond, Class, Did, Report, Verdict};
 
-type Row = (Call, Did, Option<u8>);
+pub type Row = (Call, Did, Option<u8>);
 
 /// What was counted of a class, and its least input.
 pub struct Seen {
@@ -43,6 +43,10 @@ impl Table {
         for beyond in &report.beyond {
             self.note(*beyond, case);
         }
+    }
+
+    pub fn rust_rows(&self) -> impl Iterator<Item = &Row> {
+        self.rust.keys()
     }
 
     fn note(&mut self, beyond: Beyond, case: &Case) {

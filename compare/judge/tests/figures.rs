@@ -1,0 +1,109 @@
+//! Document 01's figures of packets and window ("Figures on both sides"), from the Rust and from ours.
+
+use oracle::calls::{self as rust, Answer, Fault, Fields};
+use ours::{calls, Packet};
+
+const KEY: [u8; 32] = [3; 32];
+
+fn is<T>(answer: Answer<T>) -> T {
+    match answer {
+        Answer::Is(value) => value,
+        Answer::Panicked { .. } => panic!("the Rust panicked"),
+    }
+}
+
+/// The packet as both sides encode it, and the text that both hand to the cipher.
+fn encoded(kind: u8, a: u64, b: u64, sequence: u64) -> (Vec<u8>, Vec<u8>) {
+    let bytes = Vec::new();
+    let theirs = rust::encode(
+        vec![0; 40],
+        &Fields { kind, a, b, bytes },
+        7,
+        Some(&KEY),
+        sequence,
+    );
+    let mut theirs = is(theirs);
+    let packet = Packet {
+        kind,
+        a,
+        b,
+        bytes: &[],
+    };
+    let ours = ours::encode(vec![0; 40], &packet, 7, Some(&KEY), sequence);
+    assert_eq!(ours.out, theirs.out);
+    assert_eq!(Ok(ours.length as usize), theirs.result);
+    theirs.out.truncate(ours.length as usize);
+    (theirs.out, theirs.asked.remove(0).text)
+}
+
+/// The number that both sides refuse a datagram by, 0 where it is read.
+fn refusal(datagram: &[u8]) -> u64 {
+    let theirs = match is(rust::decode(datagram.to_vec(), 7, Some(&KEY), None)).result {
+        Ok(_) => 0,
+        Err(Fault::PacketTooSmall) => 1,
+        Err(Fault::IoError) => 9,
+        Err(other) => panic!("{other:?}"),
+    };
+    assert_eq!(
+        ours::decode(datagram.to_vec(), 7, Some(&KEY), None).number,
+        theirs
+    );
+    theirs
+}
+
+#[test]
+fn heads() {
+    for (kind, sequence, bytes) in [
+        (4, 0, &[0x04][..]),
+        (5, 255, &[0x15, 0xFF]),
+        (5, 256, &[0x25, 0, 1]),
+        (5, u64::MAX, &[0x85, 255, 255, 255, 255, 255, 255, 255, 255]),
+    ] {
+        assert_eq!(encoded(kind, 0, 0, sequence).0[..bytes.len()], *bytes);
+    }
+}
+
+#[test]
+fn a_keep_alive() {
+    let (packet, text) = encoded(4, 3, 8, 0);
+    assert_eq!(text, [3, 0, 0, 0, 8, 0, 0, 0]);
+    assert_eq!(packet.len(), 25);
+}
+
+#[test]
+fn additional_data() {
+    let whole = b"NETCODE 1.02\0\x07\0\0\0\0\0\0\0\x04";
+    assert_eq!(rust::additional_data(4, 7), *whole);
+    assert_eq!(calls::additional_data(4, 7), *whole);
+}
+
+#[test]
+fn disconnects_and_requests_by_their_length() {
+    let (short, _) = encoded(6, 0, 0, 0);
+    assert_eq!((short.len(), refusal(&short)), (17, 1));
+    let (long, _) = encoded(6, 0, 0, 1);
+    assert_eq!((long.len(), refusal(&long)), (18, 0));
+    assert_eq!(refusal(&[0; 1077]), 9);
+    assert_eq!(refusal(&[0; 1078]), 0);
+}
+
+/// Whether the window has received the sequence, as both sides say.
+fn received(window: &rust::Window, sequence: u64) -> bool {
+    let received = is(rust::already_received(window, sequence));
+    let refusal = if received { 6 } else { 0 };
+    assert_eq!(calls::refusal(window, sequence), refusal);
+    received
+}
+
+#[test]
+fn the_window() {
+    let fresh = rust::new_window();
+    let after = |sequence| is(rust::advance(&fresh, sequence));
+    assert!(received(&after(300), 44));
+    assert!(!received(&after(300), 45));
+    assert!(!received(&after(0), 256));
+    assert!(received(&is(rust::advance(&after(0), 256)), 0));
+    assert!(!received(&fresh, u64::MAX - 256));
+    // The Rust's sum wraps or panics here: docs/DIFFERENCES.md, row 7.
+    assert_eq!(calls::refusal(&fresh, u64::MAX - 255), 5);
+}
