@@ -7,6 +7,7 @@ use Rattle.calls.specs.Packets.{handed, placed}
 use Rattle.calls.proofs.desk.challenged_desk.Reads as challenged-desk
 use Rattle.calls.proofs.desk.decoded_desk.Reads as decoded-desk
 use Rattle.calls.proofs.desk.encoded_desk.Reads as encoded-desk
+use Rattle.calls.proofs.desk.kept_on.Reads as kept-on
 use Rattle.calls.proofs.desk.opening_of.Reads as opening-of
 use Rattle.calls.proofs.desk.packet_of.Reads as packet-of
 use Rattle.calls.proofs.desk.proof_opening_of.Reads as proof-opening-of
@@ -45,6 +46,9 @@ encoded-desk-determined κs a x y e f p q = coincide p q
 
 pub refused-desk-determined : (κs : _) (a : _) (x y : _) (e f : _) → refused-desk.Post κs a x e → refused-desk.Post κs a y f → x ≡ y
 refused-desk-determined κs a x y e f p q = coincide p q
+
+pub kept-on-determined : (κs : _) (a : _) (x y : _) (e f : _) → kept-on.Post κs a x e → kept-on.Post κs a y f → x ≡ y
+kept-on-determined κs a x y e f p q = coincide p q
 
 pub sealing-of-determined : (κs : _) (a : _) (x y : _) (e f : _) → sealing-of.Post κs a x e → sealing-of.Post κs a y f → x ≡ y
 sealing-of-determined κs a x y e f p q = coincide p q

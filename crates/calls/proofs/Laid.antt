@@ -3,7 +3,7 @@ use mathlib.Core.Path.{_≡_, refl, sym, ap, _∙_}
 use Prim.Native.Nat.{ℕ, _≤_, _<_}
 use mathlib.Core.Bool.{Bool}
 use mathlib.Core.List.{List}
-use lib.ListN.{length, getD}
+use lib.ListN.{length}
 use borrow.Author.Tests.{lt-ltb, le-ltb}
 use Rattle.serialize.specs.Choice.{pick}
 use Rattle.serialize.specs.Runs.{part, splice, zeros}
@@ -28,8 +28,8 @@ use Rattle.decode.specs.declared.Challenged.{Challenged}
 use Rattle.decode.specs.Decodes.{decode, answerOpen}
 use Rattle.decode.specs.Challenges.{answerChallenge}
 use Rattle.calls.specs.Heads.{written}
-use Rattle.calls.specs.Desk.{toldOf, encodedDesk, refusedDesk, packetOf, decodedDesk, challengedDesk, proofOpeningOf}
-use Rattle.calls.specs.Packets.{handed, placed, keyOf, encodedCall, encodeTyped, encodeCall, guardOf, windowLeft, decodeCall, keptOpening, answerOpenCall, fieldCall}
+use Rattle.calls.specs.Desk.{toldOf, keptOn, encodedDesk, refusedDesk, packetOf, decodedDesk, openingOf, challengedDesk, proofOpeningOf}
+use Rattle.calls.specs.Packets.{handed, placed, keyOf, encodedCall, encodeTyped, encodeCall, guardOf, windowLeft, decodeCall, answerOpenCall, fieldCall}
 use Rattle.calls.specs.Tokens.{tokenCall, challengeCall, answerChallengeCall}
 
 -- ---- the bytes for the cipher
@@ -88,7 +88,7 @@ decode-laid key guard r desk told left d protocol keyed private guarded words k 
 
 pub answer-open-laid : (opening : Opening) (guard : Guard) (r : Decoded) (desk′ left : List ℕ)
     (desk d : List ℕ) (guarded : Bool) (words : List ℕ) (granted : Bool)
-    → opening ≡ keptOpening desk → guard ≡ guardOf guarded words → r ≡ answerOpen opening d guard granted
+    → opening ≡ openingOf (keptOn desk) → guard ≡ guardOf guarded words → r ≡ answerOpen opening d guard granted
     → desk′ ≡ decodedDesk r → left ≡ putWindow words 0 (windowOf (r .guard .window))
     → placed desk′ left ≡ answerOpenCall desk d guarded words granted
 answer-open-laid opening guard r desk′ left desk d guarded words granted o g p q l =
@@ -96,7 +96,7 @@ answer-open-laid opening guard r desk′ left desk d guarded words granted o g p
     ∙ ap (placed (decodedDesk r)) l
     ∙ ap (λ (x : Decoded). placed (decodedDesk x) (windowLeft words x)) (p
     ∙ ap (λ (x : Opening). answerOpen x d guard granted) o
-    ∙ ap (λ (x : Guard). answerOpen (keptOpening desk) d x granted) g)
+    ∙ ap (λ (x : Guard). answerOpen (openingOf (keptOn desk)) d x granted) g)
 
 -- ---- challenge tokens
 
@@ -105,7 +105,7 @@ pub challenge-laid : (c e : Challenged) (desk told : List ℕ) → c ≡ e → d
 challenge-laid c e desk told p q r = ap (λ (x : List ℕ). placed x told) q ∙ ap (placed (challengedDesk c)) r ∙ ap challengeCall p
 
 pub answer-challenge-laid : (opening : ProofOpening) (c : Challenged) (desk′ : List ℕ) (desk src : List ℕ) (granted : Bool)
-    → opening ≡ proofOpeningOf (getD desk 12 0) (getD desk 14 0) (getD desk 15 0)
+    → opening ≡ proofOpeningOf (keptOn desk)
     → c ≡ answerChallenge opening src granted → desk′ ≡ challengedDesk c
     → placed desk′ (c .token .«user_data») ≡ answerChallengeCall desk src granted
 answer-challenge-laid opening c desk′ desk src granted o p q =

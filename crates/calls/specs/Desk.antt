@@ -2,6 +2,7 @@
 -- an enum, a definition gives this paper's number and values for each case).
 use Prim.Native.Nat.{ℕ, _+_, _-_, _%_, _^_}
 use mathlib.Core.List.{List, [], _∷_}
+use lib.ListN.{getD}
 use lib.Dec.{eqb}
 use Rattle.serialize.specs.Choice.{pick}
 use Rattle.serialize.specs.Runs.{splice, zeros}
@@ -11,7 +12,6 @@ use Rattle.bodies.specs.declared.TypeRead.{TypeRead}
 use Rattle.bodies.specs.declared.TypeRead.the-variants.{Known, Invalid}
 use Rattle.bodies.specs.declared.Packet.{Packet}
 use Rattle.bodies.specs.declared.Packet.the-variants.{ConnectionRequest, ConnectionDenied, Challenge, Response, KeepAlive, Payload, Disconnect}
-use Rattle.bodies.specs.declared.challenge.ChallengeToken.{ChallengeToken}
 use Rattle.bodies.specs.Kinds.{numberOf, typeOf}
 use Rattle.bodies.specs.Bodies.{kindOf}
 use Rattle.asks.specs.declared.Ask.{Ask}
@@ -22,7 +22,6 @@ use Rattle.encode.specs.declared.Encoding.{Encoding}
 use Rattle.encode.specs.declared.Encoding.the-variants as encoding
 use Rattle.encode.specs.declared.Sealing.{Sealing}
 use Rattle.encode.specs.declared.Sealing.the-variants as sealing
-use Rattle.decode.specs.declared.Opened.{Opened}
 use Rattle.decode.specs.declared.Decoded.{Decoded}
 use Rattle.decode.specs.declared.Decoding.{Decoding}
 use Rattle.decode.specs.declared.Decoding.the-variants as decoding
@@ -33,13 +32,43 @@ use Rattle.decode.specs.declared.Proving.{Proving}
 use Rattle.decode.specs.declared.Proving.the-variants as proving
 use Rattle.decode.specs.declared.ProofOpening.{ProofOpening}
 use Rattle.decode.specs.declared.ProofOpening.the-variants as proof
-use Rattle.decode.specs.Decodes.{opened}
+use Rattle.calls.specs.declared.desk.Said.{Said}
+use Rattle.calls.specs.declared.desk.Shown.{Shown}
+use Rattle.calls.specs.declared.desk.Kept.{Kept}
 
--- ---- asks
+-- ---- the layout
+
+abbrev pub saying : ℕ → ℕ → Said
+saying code value = record { code = code; value = value }
+
+abbrev pub showing : ℕ → ℕ → ℕ → ℕ → ℕ → ℕ → Shown
+showing sequence kind first second start end =
+    record { sequence = sequence; kind = kind; first = first; second = second; start = start; end = end }
+
+abbrev pub keeping : ℕ → ℕ → ℕ → ℕ → Kept
+keeping code sequence place len = record { code = code; sequence = sequence; place = place; len = len }
+
+-- nothing was read; nothing is open
+abbrev pub noShow : Shown
+noShow = showing 0 0 0 0 0 0
+
+abbrev pub noKept : Kept
+noKept = keeping 0 0 0 0
 
 abbrev pub workCode : Work → ℕ
 workCode work.Open = 0
 workCode work.Seal = 1
+
+-- what was said 2, what was read 6, the ask 4, what is kept 4
+abbrev pub laid : Said → Shown → Ask → Kept → List ℕ
+laid said shown ask kept =
+    said .code ∷ said .value ∷
+    shown .sequence ∷ shown .kind ∷ shown .first ∷ shown .second ∷ shown .start ∷ shown .end ∷
+    workCode (ask .work) ∷ ask .size ∷ ask .start ∷ ask .end ∷
+    kept .code ∷ kept .sequence ∷ kept .place ∷ kept .len ∷ []
+
+abbrev pub keptOn : List ℕ → Kept
+keptOn desk = keeping (getD desk 12 0) (getD desk 13 0) (getD desk 14 0) (getD desk 15 0)
 
 -- the bytes that go to the cipher: key from 0, nonce from 32, additional data from 44
 abbrev pub toldOf : Ask → List ℕ
@@ -47,41 +76,23 @@ toldOf ask = splice (splice (splice (zeros 66) 0 (ask .key)) 32 (ask .nonce)) 44
 
 -- ---- encoding
 
-abbrev pub encodingCode : Encoding → ℕ
-encodingCode (encoding.Refused n) = 0
-encodingCode encoding.Asked = 1
-encodingCode (encoding.Length n) = 2
+abbrev pub saidEncoding : Encoding → Said
+saidEncoding (encoding.Refused n) = saying 0 n
+saidEncoding encoding.Asked = saying 1 0
+saidEncoding (encoding.Length n) = saying 2 n
 
-abbrev pub encodingValue : Encoding → ℕ
-encodingValue (encoding.Refused n) = n
-encodingValue encoding.Asked = 0
-encodingValue (encoding.Length n) = n
+abbrev pub keptSealing : Sealing → Kept
+keptSealing sealing.Closed = noKept
+keptSealing (sealing.Open end len) = keeping 1 0 end len
 
-abbrev pub sealingCode : Sealing → ℕ
-sealingCode sealing.Closed = 0
-sealingCode (sealing.Open end len) = 1
-
-abbrev pub sealingEnd : Sealing → ℕ
-sealingEnd sealing.Closed = 0
-sealingEnd (sealing.Open end len) = end
-
-abbrev pub sealingLen : Sealing → ℕ
-sealingLen sealing.Closed = 0
-sealingLen (sealing.Open end len) = len
-
--- answer 2, packet 6, ask 4, kept 4
 abbrev pub encodedDesk : Encoded → List ℕ
-encodedDesk e =
-    encodingCode (e .answer) ∷ encodingValue (e .answer) ∷
-    0 ∷ 0 ∷ 0 ∷ 0 ∷ 0 ∷ 0 ∷
-    workCode (e .ask .work) ∷ e .ask .size ∷ e .ask .start ∷ e .ask .end ∷
-    sealingCode (e .sealing) ∷ 0 ∷ sealingEnd (e .sealing) ∷ sealingLen (e .sealing) ∷ []
+encodedDesk e = laid (saidEncoding (e .answer)) noShow (e .ask) (keptSealing (e .sealing))
 
 abbrev pub refusedDesk : ℕ → List ℕ
 refusedDesk n = 0 ∷ n ∷ 0 ∷ 0 ∷ 0 ∷ 0 ∷ 0 ∷ 0 ∷ 0 ∷ 0 ∷ 0 ∷ 0 ∷ 0 ∷ 0 ∷ 0 ∷ 0 ∷ []
 
-unfoldable pub sealingOf : ℕ → ℕ → ℕ → Sealing
-sealingOf kept end len = pick (eqb kept 0) sealing.Closed (sealing.Open end len)
+unfoldable pub sealingOf : Kept → Sealing
+sealingOf kept = pick (eqb (kept .code) 0) sealing.Closed (sealing.Open (kept .place) (kept .len))
 
 -- ---- packets
 
@@ -116,86 +127,48 @@ packetOf kind.Disconnect a b = Disconnect
 
 -- ---- decoding
 
-abbrev pub decodingCode : Decoding → ℕ
-decodingCode (decoding.Refused n) = 0
-decodingCode decoding.Asked = 1
-decodingCode (decoding.Read o) = 2
+abbrev pub saidDecoding : Decoding → Said
+saidDecoding (decoding.Refused n) = saying 0 n
+saidDecoding decoding.Asked = saying 1 0
+saidDecoding (decoding.Read o) = saying 2 0
 
-abbrev pub decodingValue : Decoding → ℕ
-decodingValue (decoding.Refused n) = n
-decodingValue decoding.Asked = 0
-decodingValue (decoding.Read o) = 0
+abbrev pub shownOf : Decoding → Shown
+shownOf (decoding.Refused n) = noShow
+shownOf decoding.Asked = noShow
+shownOf (decoding.Read o) =
+    showing (o .sequence) (numberOf (kindOf (o .packet))) (firstOf (o .packet)) (secondOf (o .packet)) (o .start) (o .end)
 
--- what was read; zeros where nothing was
-abbrev pub readOf : Decoding → Opened
-readOf (decoding.Refused n) = opened 0 (ConnectionRequest 0 0) 0 0
-readOf decoding.Asked = opened 0 (ConnectionRequest 0 0) 0 0
-readOf (decoding.Read o) = o
-
--- 0 for nothing open, else one more than the type
-abbrev pub openingCode : Opening → ℕ
-openingCode opening.Closed = 0
-openingCode (opening.Open kind sequence start len) = 1 + numberOf kind
-
-abbrev pub openingSequence : Opening → ℕ
-openingSequence opening.Closed = 0
-openingSequence (opening.Open kind sequence start len) = sequence
-
-abbrev pub openingStart : Opening → ℕ
-openingStart opening.Closed = 0
-openingStart (opening.Open kind sequence start len) = start
-
-abbrev pub openingLen : Opening → ℕ
-openingLen opening.Closed = 0
-openingLen (opening.Open kind sequence start len) = len
+-- one more than the type, so that 0 is nothing open
+abbrev pub keptOpening : Opening → Kept
+keptOpening opening.Closed = noKept
+keptOpening (opening.Open kind sequence start len) = keeping (1 + numberOf kind) sequence start len
 
 abbrev pub decodedDesk : Decoded → List ℕ
-decodedDesk d =
-    decodingCode (d .answer) ∷ decodingValue (d .answer) ∷
-    readOf (d .answer) .sequence ∷ numberOf (kindOf (readOf (d .answer) .packet)) ∷
-    firstOf (readOf (d .answer) .packet) ∷ secondOf (readOf (d .answer) .packet) ∷
-    readOf (d .answer) .start ∷ readOf (d .answer) .end ∷
-    workCode (d .ask .work) ∷ d .ask .size ∷ d .ask .start ∷ d .ask .end ∷
-    openingCode (d .opening) ∷ openingSequence (d .opening) ∷ openingStart (d .opening) ∷ openingLen (d .opening) ∷ []
+decodedDesk d = laid (saidDecoding (d .answer)) (shownOf (d .answer)) (d .ask) (keptOpening (d .opening))
 
-abbrev pub openedAs : TypeRead → ℕ → ℕ → ℕ → Opening
-openedAs (Known kind) sequence start len = opening.Open kind sequence start len
-openedAs Invalid sequence start len = opening.Closed
+abbrev pub openedAs : TypeRead → Kept → Opening
+openedAs (Known kind) kept = opening.Open kind (kept .sequence) (kept .place) (kept .len)
+openedAs Invalid kept = opening.Closed
 
--- what is kept, from the desk: a code that no type has is nothing
-unfoldable pub openingOf : ℕ → ℕ → ℕ → ℕ → Opening
-openingOf kept sequence start len = pick (eqb kept 0) opening.Closed (openedAs (typeOf ((kept - 1) % 256)) sequence start len)
+-- a code that no type has is nothing open
+unfoldable pub openingOf : Kept → Opening
+openingOf kept = pick (eqb (kept .code) 0) opening.Closed (openedAs (typeOf ((kept .code - 1) % 256)) kept)
 
 -- ---- challenge tokens
 
-abbrev pub provingCode : Proving → ℕ
-provingCode (proving.Refused n) = 0
-provingCode proving.Asked = 1
-provingCode proving.Proved = 2
+abbrev pub saidProving : Proving → Said
+saidProving (proving.Refused n) = saying 0 n
+saidProving proving.Asked = saying 1 0
+saidProving proving.Proved = saying 2 0
 
-abbrev pub provingValue : Proving → ℕ
-provingValue (proving.Refused n) = n
-provingValue proving.Asked = 0
-provingValue proving.Proved = 0
+abbrev pub keptProof : ProofOpening → Kept
+keptProof proof.Closed = noKept
+keptProof (proof.Open at len) = keeping 1 0 at len
 
-abbrev pub proofCode : ProofOpening → ℕ
-proofCode proof.Closed = 0
-proofCode (proof.Open at len) = 1
-
-abbrev pub proofAt : ProofOpening → ℕ
-proofAt proof.Closed = 0
-proofAt (proof.Open at len) = at
-
-abbrev pub proofLen : ProofOpening → ℕ
-proofLen proof.Closed = 0
-proofLen (proof.Open at len) = len
-
+-- the token's client in the place of a packet's first number
 abbrev pub challengedDesk : Challenged → List ℕ
 challengedDesk c =
-    provingCode (c .answer) ∷ provingValue (c .answer) ∷
-    0 ∷ 0 ∷ c .token .«client_id» ∷ 0 ∷ 0 ∷ 0 ∷
-    workCode (c .ask .work) ∷ c .ask .size ∷ c .ask .start ∷ c .ask .end ∷
-    proofCode (c .opening) ∷ 0 ∷ proofAt (c .opening) ∷ proofLen (c .opening) ∷ []
+    laid (saidProving (c .answer)) (showing 0 0 (c .token .«client_id») 0 0 0) (c .ask) (keptProof (c .opening))
 
-unfoldable pub proofOpeningOf : ℕ → ℕ → ℕ → ProofOpening
-proofOpeningOf kept at len = pick (eqb kept 0) proof.Closed (proof.Open at len)
+unfoldable pub proofOpeningOf : Kept → ProofOpening
+proofOpeningOf kept = pick (eqb (kept .code) 0) proof.Closed (proof.Open (kept .place) (kept .len))

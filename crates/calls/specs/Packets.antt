@@ -2,7 +2,7 @@
 use Prim.Native.Nat.{ℕ, _+_, _-_}
 use mathlib.Core.Bool.{Bool}
 use mathlib.Core.List.{List}
-use lib.ListN.{length, getD}
+use lib.ListN.{length}
 use lib.Dec.{eqb, ltb}
 use Rattle.serialize.specs.Choice.{pick}
 use Rattle.serialize.specs.Runs.{part, splice, zeros}
@@ -15,10 +15,9 @@ use Rattle.asks.specs.declared.PrivateKey.{PrivateKey}
 use Rattle.encode.specs.Encodes.{Done, encode, answerSeal}
 use Rattle.decode.specs.declared.Guard.{Guard}
 use Rattle.decode.specs.declared.Decoded.{Decoded}
-use Rattle.decode.specs.declared.Opening.{Opening}
 use Rattle.decode.specs.Decodes.{guarding, decode, answerOpen}
 use Rattle.calls.specs.Heads.{Written, written}
-use Rattle.calls.specs.Desk.{toldOf, encodedDesk, refusedDesk, sealingOf, packetOf, decodedDesk, openingOf}
+use Rattle.calls.specs.Desk.{toldOf, keptOn, encodedDesk, refusedDesk, sealingOf, packetOf, decodedDesk, openingOf}
 
 -- the desk, the bytes for the cipher, and what else was lent
 pub record Handed : Type 0 where
@@ -55,7 +54,7 @@ encodeCall out kind a b bytes protocol keyed key sequence =
 
 abbrev pub answerSealCall : List ℕ → List ℕ → Bool → List ℕ
 answerSealCall desk out granted =
-    encodedDesk (answerSeal (sealingOf (getD desk 12 0) (getD desk 14 0) (getD desk 15 0)) (length out) granted)
+    encodedDesk (answerSeal (sealingOf (keptOn desk)) (length out) granted)
 
 -- ---- decoding: the window by value, from the words lent and back to them
 
@@ -72,14 +71,11 @@ decodeCall d protocol keyed key guarded words =
     (toldOf (decode d protocol (keyOf keyed key) (guardOf guarded words) .ask))
     (windowLeft words (decode d protocol (keyOf keyed key) (guardOf guarded words)))
 
-abbrev pub keptOpening : List ℕ → Opening
-keptOpening desk = openingOf (getD desk 12 0) (getD desk 13 0) (getD desk 14 0) (getD desk 15 0)
-
 abbrev pub answerOpenCall : List ℕ → List ℕ → Bool → List ℕ → Bool → Placed
 answerOpenCall desk d guarded words granted =
     placed
-    (decodedDesk (answerOpen (keptOpening desk) d (guardOf guarded words) granted))
-    (windowLeft words (answerOpen (keptOpening desk) d (guardOf guarded words) granted))
+    (decodedDesk (answerOpen (openingOf (keptOn desk)) d (guardOf guarded words) granted))
+    (windowLeft words (answerOpen (openingOf (keptOn desk)) d (guardOf guarded words) granted))
 
 -- ---- parts of a body from at to end: version, nonce, private data, token data, else all of it
 

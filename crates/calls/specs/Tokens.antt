@@ -2,12 +2,12 @@
 use Prim.Native.Nat.{ℕ}
 use mathlib.Core.Bool.{Bool}
 use mathlib.Core.List.{List}
-use lib.ListN.{length, getD}
+use lib.ListN.{length}
 use Rattle.bodies.specs.Tokens.{token}
 use Rattle.encode.specs.Generates.{generateChallenge}
 use Rattle.decode.specs.declared.Challenged.{Challenged}
 use Rattle.decode.specs.Challenges.{decodeChallenge, answerChallenge}
-use Rattle.calls.specs.Desk.{toldOf, challengedDesk, proofOpeningOf}
+use Rattle.calls.specs.Desk.{toldOf, keptOn, challengedDesk, proofOpeningOf}
 use Rattle.calls.specs.Packets.{Handed, encodedCall, Placed, placed}
 
 abbrev pub generateCall : List ℕ → ℕ → ℕ → List ℕ → ℕ → List ℕ → Handed
@@ -25,4 +25,4 @@ tokenCall c = placed (challengedDesk c) (c .token .«user_data»)
 
 abbrev pub answerChallengeCall : List ℕ → List ℕ → Bool → Placed
 answerChallengeCall desk src granted =
-    tokenCall (answerChallenge (proofOpeningOf (getD desk 12 0) (getD desk 14 0) (getD desk 15 0)) src granted)
+    tokenCall (answerChallenge (proofOpeningOf (keptOn desk)) src granted)

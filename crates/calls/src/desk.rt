@@ -3,9 +3,9 @@
 // ends; of a challenge token 4 is its client. 8 to 11, of an ask: open 0, seal 1; the size of its additional data; where its part
 // starts and ends. 12 to 15, what is kept open, 12 being 0 for nothing: the answer finds it there.
 ghost use mathlib.Core.Path.{_≡_};
-ghost use Rattle.calls.specs.Desk.{encodingCode, encodingValue, sealingCode, sealingEnd, sealingLen, workCode, toldOf, encodedDesk, refusedDesk, sealingOf, firstOf, secondOf, packetOf, readOf, decodingCode, decodingValue, openingCode, openingSequence, openingStart, openingLen, decodedDesk, openingOf, provingCode, provingValue, proofCode, proofAt, proofLen, challengedDesk, proofOpeningOf};
 ghost use Prim.Native.Nat.{_-_, _%_, _^_, _<_};
 ghost use Rattle.bodies.specs.Kinds.{typeOf};
+ghost use Rattle.calls.specs.Desk.{workCode, toldOf, laid, noShow, noKept, keptOn, saidEncoding, keptSealing, encodedDesk, refusedDesk, sealingOf, firstOf, secondOf, packetOf, saidDecoding, shownOf, keptOpening, decodedDesk, openingOf, saidProving, keptProof, challengedDesk, proofOpeningOf};
 use asks::Ask;
 use asks::Work;
 use bodies::Packet;
@@ -22,7 +22,32 @@ use encode::Encoded;
 use encode::Encoding;
 use encode::Sealing;
 
-// ---- asks
+// Words 0 and 1.
+pub struct Said {
+    pub code: u64,
+    pub value: u64,
+}
+
+// Words 2 to 7.
+pub struct Shown {
+    pub sequence: u64,
+    pub kind: u64,
+    pub first: u64,
+    pub second: u64,
+    pub start: u64,
+    pub end: u64,
+}
+
+// Words 12 to 15: of an ask to open one more than the type, the sequence, the place and the length; of the others 1, 0, the place,
+// which of an ask to seal is its end, and the length.
+pub struct Kept {
+    pub code: u64,
+    pub sequence: u64,
+    pub place: u64,
+    pub len: u64,
+}
+
+// ---- the layout
 
 fn work_code(work: Work) -> u64
     ensures { λ r. ⌜ r ≡ workCode work ⌝ }
@@ -31,6 +56,30 @@ fn work_code(work: Work) -> u64
         Work::Open => 0,
         Work::Seal => 1,
     }
+}
+
+fn lay(said: Said, shown: Shown, ask: Ask, kept: Kept) -> [u64; 16]
+    ensures { λ r. ⌜ r ≡ laid said shown ask kept ⌝ }
+{
+    let work = ask.work;
+    [
+        said.code,
+        said.value,
+        shown.sequence,
+        shown.kind,
+        shown.first,
+        shown.second,
+        shown.start,
+        shown.end,
+        work_code(work),
+        ask.size as u64,
+        ask.start as u64,
+        ask.end as u64,
+        kept.code,
+        kept.sequence,
+        kept.place,
+        kept.len,
+    ]
 }
 
 // The bytes that go to the cipher: key, nonce, additional data.
@@ -44,52 +93,71 @@ pub fn told_of(ask: Ask) -> [u8; 66]
     told
 }
 
+fn no_show() -> Shown
+    ensures { λ r. ⌜ r ≡ noShow ⌝ }
+{
+    Shown {
+        sequence: 0,
+        kind: 0,
+        first: 0,
+        second: 0,
+        start: 0,
+        end: 0,
+    }
+}
+
+fn no_kept() -> Kept
+    ensures { λ r. ⌜ r ≡ noKept ⌝ }
+{
+    Kept {
+        code: 0,
+        sequence: 0,
+        place: 0,
+        len: 0,
+    }
+}
+
+// What the desk says is kept open.
+pub fn kept_on(words: &[u64; 16]) -> Kept
+    ensures { λ r. ⌜ r ≡ keptOn (now (words .entry)) ⌝ }
+{
+    Kept {
+        code: words[12],
+        sequence: words[13],
+        place: words[14],
+        len: words[15],
+    }
+}
+
 // ---- encoding
 
-fn encoding_code(answer: Encoding) -> u64
-    ensures { λ r. ⌜ r ≡ encodingCode answer ⌝ }
+fn said_encoding(answer: Encoding) -> Said
+    ensures { λ r. ⌜ r ≡ saidEncoding answer ⌝ }
 {
     match answer {
-        Encoding::Refused(_) => 0,
-        Encoding::Asked => 1,
-        Encoding::Length(_) => 2,
+        Encoding::Refused(number) => Said {
+            code: 0,
+            value: number as u64,
+        },
+        Encoding::Asked => Said { code: 1, value: 0 },
+        Encoding::Length(len) => Said {
+            code: 2,
+            value: len as u64,
+        },
     }
 }
 
-fn encoding_value(answer: Encoding) -> u64
-    ensures { λ r. ⌜ r ≡ encodingValue answer ⌝ }
-{
-    match answer {
-        Encoding::Refused(number) => number as u64,
-        Encoding::Asked => 0,
-        Encoding::Length(len) => len as u64,
-    }
-}
-
-fn sealing_code(sealing: Sealing) -> u64
-    ensures { λ r. ⌜ r ≡ sealingCode sealing ⌝ }
+fn kept_sealing(sealing: Sealing) -> Kept
+    ensures { λ r. ⌜ r ≡ keptSealing sealing ⌝ }
 {
     match sealing {
-        Sealing::Closed => 0,
-        Sealing::Open { end: _, len: _ } => 1,
-    }
-}
-
-fn sealing_end(sealing: Sealing) -> u64
-    ensures { λ r. ⌜ r ≡ sealingEnd sealing ⌝ }
-{
-    match sealing {
-        Sealing::Closed => 0,
-        Sealing::Open { end, len: _ } => end as u64,
-    }
-}
-
-fn sealing_len(sealing: Sealing) -> u64
-    ensures { λ r. ⌜ r ≡ sealingLen sealing ⌝ }
-{
-    match sealing {
-        Sealing::Closed => 0,
-        Sealing::Open { end: _, len } => len as u64,
+        Sealing::Closed => no_kept(),
+        Sealing::Open { end, len } => Kept {
+            code: 1,
+            sequence: 0,
+            place: end as u64,
+            len: len as u64,
+        },
     }
 }
 
@@ -99,25 +167,7 @@ pub fn encoded_desk(encoded: Encoded) -> [u64; 16]
     let answer = encoded.answer;
     let sealing = encoded.sealing;
     let ask = encoded.ask;
-    let work = ask.work;
-    [
-        encoding_code(answer),
-        encoding_value(answer),
-        0,
-        0,
-        0,
-        0,
-        0,
-        0,
-        work_code(work),
-        ask.size as u64,
-        ask.start as u64,
-        ask.end as u64,
-        sealing_code(sealing),
-        0,
-        sealing_end(sealing),
-        sealing_len(sealing),
-    ]
+    lay(said_encoding(answer), no_show(), ask, kept_sealing(sealing))
 }
 
 // A refusal by number, and nothing else.
@@ -127,16 +177,15 @@ pub fn refused_desk(number: u64) -> [u64; 16]
     [0, number, 0, 0, 0, 0, 0, 0, 0, 0, 0, 0, 0, 0, 0, 0]
 }
 
-// What is kept of an ask to seal, from the desk.
-pub fn sealing_of(kept: u64, end: u64, len: u64) -> Sealing
-    ensures { λ r. ⌜ r ≡ sealingOf kept end len ⌝ }
+pub fn sealing_of(kept: Kept) -> Sealing
+    ensures { λ r. ⌜ r ≡ sealingOf kept ⌝ }
 {
-    if kept == 0 {
+    if kept.code == 0 {
         return Sealing::Closed;
     }
     Sealing::Open {
-        end: end as usize,
-        len: len as usize,
+        end: kept.place as usize,
+        len: kept.len as usize,
     }
 }
 
@@ -211,103 +260,59 @@ pub fn packet_of(kind: PacketType, a: u64, b: u64) -> Packet
 
 // ---- decoding
 
-fn decoding_code(answer: Decoding) -> u64
-    ensures { λ r. ⌜ r ≡ decodingCode answer ⌝ }
+fn said_decoding(answer: Decoding) -> Said
+    ensures { λ r. ⌜ r ≡ saidDecoding answer ⌝ }
 {
     match answer {
-        Decoding::Refused(_) => 0,
-        Decoding::Asked => 1,
-        Decoding::Read(_) => 2,
-    }
-}
-
-fn decoding_value(answer: Decoding) -> u64
-    ensures { λ r. ⌜ r ≡ decodingValue answer ⌝ }
-{
-    match answer {
-        Decoding::Refused(number) => number as u64,
-        Decoding::Asked => 0,
-        Decoding::Read(_) => 0,
-    }
-}
-
-fn nothing_read() -> Opened
-    ensures { λ r. ⌜ r ≡ readOf (Decoding.Asked) ⌝ }
-{
-    Opened {
-        sequence: 0,
-        packet: Packet::ConnectionRequest {
-            protocol_id: 0,
-            expire_timestamp: 0,
+        Decoding::Refused(number) => Said {
+            code: 0,
+            value: number as u64,
         },
-        start: 0,
-        end: 0,
+        Decoding::Asked => Said { code: 1, value: 0 },
+        Decoding::Read(_) => Said { code: 2, value: 0 },
     }
 }
 
-fn read_of(answer: Decoding) -> Opened
-    ensures { λ r. ⌜ r ≡ readOf answer ⌝ }
+fn show(opened: Opened) -> Shown
+    ensures { λ r. ⌜ r ≡ shownOf (Decoding.Read opened) ⌝ }
+{
+    let packet = opened.packet;
+    Shown {
+        sequence: opened.sequence,
+        kind: packet.id() as u64,
+        first: first(packet),
+        second: second(packet),
+        start: opened.start as u64,
+        end: opened.end as u64,
+    }
+}
+
+fn shown_of(answer: Decoding) -> Shown
+    ensures { λ r. ⌜ r ≡ shownOf answer ⌝ }
 {
     match answer {
-        Decoding::Refused(_) => nothing_read(),
-        Decoding::Asked => nothing_read(),
-        Decoding::Read(opened) => opened,
+        Decoding::Refused(_) => no_show(),
+        Decoding::Asked => no_show(),
+        Decoding::Read(opened) => show(opened),
     }
 }
 
-fn opening_code(opening: Opening) -> u64
-    ensures { λ r. ⌜ r ≡ openingCode opening ⌝ }
+fn kept_opening(opening: Opening) -> Kept
+    ensures { λ r. ⌜ r ≡ keptOpening opening ⌝ }
 {
     match opening {
-        Opening::Closed => 0,
+        Opening::Closed => no_kept(),
         Opening::Open {
             kind,
-            sequence: _,
-            start: _,
-            len: _,
-        } => 1 + kind.to_u8() as u64,
-    }
-}
-
-fn opening_sequence(opening: Opening) -> u64
-    ensures { λ r. ⌜ r ≡ openingSequence opening ⌝ }
-{
-    match opening {
-        Opening::Closed => 0,
-        Opening::Open {
-            kind: _,
             sequence,
-            start: _,
-            len: _,
-        } => sequence,
-    }
-}
-
-fn opening_start(opening: Opening) -> u64
-    ensures { λ r. ⌜ r ≡ openingStart opening ⌝ }
-{
-    match opening {
-        Opening::Closed => 0,
-        Opening::Open {
-            kind: _,
-            sequence: _,
             start,
-            len: _,
-        } => start as u64,
-    }
-}
-
-fn opening_len(opening: Opening) -> u64
-    ensures { λ r. ⌜ r ≡ openingLen opening ⌝ }
-{
-    match opening {
-        Opening::Closed => 0,
-        Opening::Open {
-            kind: _,
-            sequence: _,
-            start: _,
             len,
-        } => len as u64,
+        } => Kept {
+            code: 1 + kind.to_u8() as u64,
+            sequence,
+            place: start as u64,
+            len: len as u64,
+        },
     }
 }
 
@@ -315,52 +320,36 @@ pub fn decoded_desk(decoded: Decoded) -> [u64; 16]
     ensures { λ r. ⌜ r ≡ decodedDesk decoded ⌝ }
 {
     let answer = decoded.answer;
-    let opened = read_of(answer);
-    let packet = opened.packet;
     let opening = decoded.opening;
     let ask = decoded.ask;
-    let work = ask.work;
-    [
-        decoding_code(answer),
-        decoding_value(answer),
-        opened.sequence,
-        packet.id() as u64,
-        first(packet),
-        second(packet),
-        opened.start as u64,
-        opened.end as u64,
-        work_code(work),
-        ask.size as u64,
-        ask.start as u64,
-        ask.end as u64,
-        opening_code(opening),
-        opening_sequence(opening),
-        opening_start(opening),
-        opening_len(opening),
-    ]
+    lay(
+        said_decoding(answer),
+        shown_of(answer),
+        ask,
+        kept_opening(opening),
+    )
 }
 
 // The type that a code of something kept open is of.
-fn kept_type(kept: u64) -> TypeRead
-    requires { ⌜ 0 < kept ⌝ }
-    ensures { λ r. ⌜ r ≡ typeOf ((kept - 1) % 256) ⌝ }
+fn kept_type(code: u64) -> TypeRead
+    requires { ⌜ 0 < code ⌝ }
+    ensures { λ r. ⌜ r ≡ typeOf ((code - 1) % 256) ⌝ }
 {
-    PacketType::from_u8(((kept - 1) % 256) as u8)
+    PacketType::from_u8(((code - 1) % 256) as u8)
 }
 
-// What is kept of an ask to open, from the desk.
-pub fn opening_of(kept: u64, sequence: u64, start: u64, len: u64) -> Opening
-    ensures { λ r. ⌜ r ≡ openingOf kept sequence start len ⌝ }
+pub fn opening_of(kept: Kept) -> Opening
+    ensures { λ r. ⌜ r ≡ openingOf kept ⌝ }
 {
-    if kept == 0 {
+    if kept.code == 0 {
         return Opening::Closed;
     }
-    match kept_type(kept) {
+    match kept_type(kept.code) {
         TypeRead::Known(kind) => Opening::Open {
             kind,
-            sequence,
-            start: start as usize,
-            len: len as usize,
+            sequence: kept.sequence,
+            start: kept.place as usize,
+            len: kept.len as usize,
         },
         TypeRead::Invalid => Opening::Closed,
     }
@@ -368,50 +357,30 @@ pub fn opening_of(kept: u64, sequence: u64, start: u64, len: u64) -> Opening
 
 // ---- challenge tokens
 
-fn proving_code(answer: Proving) -> u64
-    ensures { λ r. ⌜ r ≡ provingCode answer ⌝ }
+fn said_proving(answer: Proving) -> Said
+    ensures { λ r. ⌜ r ≡ saidProving answer ⌝ }
 {
     match answer {
-        Proving::Refused(_) => 0,
-        Proving::Asked => 1,
-        Proving::Proved => 2,
+        Proving::Refused(number) => Said {
+            code: 0,
+            value: number as u64,
+        },
+        Proving::Asked => Said { code: 1, value: 0 },
+        Proving::Proved => Said { code: 2, value: 0 },
     }
 }
 
-fn proving_value(answer: Proving) -> u64
-    ensures { λ r. ⌜ r ≡ provingValue answer ⌝ }
-{
-    match answer {
-        Proving::Refused(number) => number as u64,
-        Proving::Asked => 0,
-        Proving::Proved => 0,
-    }
-}
-
-fn proof_code(opening: ProofOpening) -> u64
-    ensures { λ r. ⌜ r ≡ proofCode opening ⌝ }
+fn kept_proof(opening: ProofOpening) -> Kept
+    ensures { λ r. ⌜ r ≡ keptProof opening ⌝ }
 {
     match opening {
-        ProofOpening::Closed => 0,
-        ProofOpening::Open { at: _, len: _ } => 1,
-    }
-}
-
-fn proof_at(opening: ProofOpening) -> u64
-    ensures { λ r. ⌜ r ≡ proofAt opening ⌝ }
-{
-    match opening {
-        ProofOpening::Closed => 0,
-        ProofOpening::Open { at, len: _ } => at as u64,
-    }
-}
-
-fn proof_len(opening: ProofOpening) -> u64
-    ensures { λ r. ⌜ r ≡ proofLen opening ⌝ }
-{
-    match opening {
-        ProofOpening::Closed => 0,
-        ProofOpening::Open { at: _, len } => len as u64,
+        ProofOpening::Closed => no_kept(),
+        ProofOpening::Open { at, len } => Kept {
+            code: 1,
+            sequence: 0,
+            place: at as u64,
+            len: len as u64,
+        },
     }
 }
 
@@ -421,36 +390,19 @@ pub fn challenged_desk(challenged: Challenged) -> [u64; 16]
     let answer = challenged.answer;
     let opening = challenged.opening;
     let ask = challenged.ask;
-    let work = ask.work;
-    [
-        proving_code(answer),
-        proving_value(answer),
-        0,
-        0,
-        challenged.token.client_id,
-        0,
-        0,
-        0,
-        work_code(work),
-        ask.size as u64,
-        ask.start as u64,
-        ask.end as u64,
-        proof_code(opening),
-        0,
-        proof_at(opening),
-        proof_len(opening),
-    ]
+    let mut shown = no_show();
+    shown.first = challenged.token.client_id;
+    lay(said_proving(answer), shown, ask, kept_proof(opening))
 }
 
-// What is kept of an ask to open a challenge token, from the desk.
-pub fn proof_opening_of(kept: u64, at: u64, len: u64) -> ProofOpening
-    ensures { λ r. ⌜ r ≡ proofOpeningOf kept at len ⌝ }
+pub fn proof_opening_of(kept: Kept) -> ProofOpening
+    ensures { λ r. ⌜ r ≡ proofOpeningOf kept ⌝ }
 {
-    if kept == 0 {
+    if kept.code == 0 {
         return ProofOpening::Closed;
     }
     ProofOpening::Open {
-        at: at as usize,
-        len: len as usize,
+        at: kept.place as usize,
+        len: kept.len as usize,
     }
 }

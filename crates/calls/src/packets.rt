@@ -58,7 +58,7 @@ pub extern "C" fn pump_encode(
 pub extern "C" fn pump_answer_seal(out: &[u8], granted: bool, words: &mut [u64; 16])
     ensures { λ _. ⌜ now (words .exit) ≡ answerSealCall (now (words .entry)) (now (out .entry)) granted ⌝ }
 {
-    let sealing = desk::sealing_of(words[12], words[14], words[15]);
+    let sealing = desk::sealing_of(desk::kept_on(words));
     let encoded = encode::answer_seal(sealing, out, granted);
     *words = desk::encoded_desk(encoded);
 }
@@ -111,7 +111,7 @@ pub extern "C" fn pump_answer_open(
 )
     ensures { λ _. ⌜ placed (now (words .exit)) (now (window .exit)) ≡ answerOpenCall (now (words .entry)) (now (datagram .entry)) guarded (now (window .entry)) granted ⌝ }
 {
-    let opening = desk::opening_of(words[12], words[13], words[14], words[15]);
+    let opening = desk::opening_of(desk::kept_on(words));
     let decoded = decode::answer_open(opening, datagram, guard_of(guarded, window), granted);
     *words = desk::decoded_desk(decoded);
     let guard = decoded.guard;

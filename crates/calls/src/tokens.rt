@@ -59,7 +59,7 @@ pub extern "C" fn pump_answer_challenge(
 )
     ensures { λ _. ⌜ placed (now (words .exit)) (now («user_data» .exit)) ≡ answerChallengeCall (now (words .entry)) (now («token_data» .entry)) granted ⌝ }
 {
-    let opening = desk::proof_opening_of(words[12], words[14], words[15]);
+    let opening = desk::proof_opening_of(desk::kept_on(words));
     let challenged = decode::answer_challenge(opening, token_data, granted);
     *words = desk::challenged_desk(challenged);
     let token = challenged.token;

@@ -1,37 +1,25 @@
--- Each word is its field.
+-- The answer, the client, the ask and what is kept, laid out.
+use mathlib.Core.Path.{_∙_}
 use borrow.Author.Needs.{needs}
 use Rattle.calls.proofs.desk.challenged_desk.Statement.{statement}
 use Rattle.calls.proofs.desk.challenged_desk.Tie as tie
 
-proving-code-requires : tie.Need-proving-code-requires
-proving-code-requires c κs = search needs
+no-show-requires : tie.Need-no-show-requires
+no-show-requires c κs = search needs
 
-proving-value-requires : tie.Need-proving-value-requires
-proving-value-requires c κs = search needs
+said-proving-requires : tie.Need-said-proving-requires
+said-proving-requires c κs = search needs
 
-work-code-requires : tie.Need-work-code-requires
-work-code-requires c κs = search needs
+kept-proof-requires : tie.Need-kept-proof-requires
+kept-proof-requires c κs = search needs
 
-proof-code-requires : tie.Need-proof-code-requires
-proof-code-requires c κs = search needs
-
-proof-at-requires : tie.Need-proof-at-requires
-proof-at-requires c κs = search needs
-
-proof-len-requires : tie.Need-proof-len-requires
-proof-len-requires c κs = search needs
+lay-requires : tie.Need-lay-requires
+lay-requires c κs = search needs
 
 returns : tie.Need-returns
-returns c = simp (c .proof-len .ensures, c .before .proof-at .ensures, c .before .before .proof-code .ensures, c .before .before .before .work-code .ensures, c .before .before .before .before .proving-value .ensures, c .before .before .before .before .before .proving-code .ensures)
+returns c = c .lay .ensures ∙ simp (c .before .kept-proof .ensures, c .before .before .said-proving .ensures, c .before .before .before .no-show .ensures)
 
 pub challenged-desk-spec : {M : Type 1} → statement M
 challenged-desk-spec =
     tie.close
-    (tie.spec
-    proving-code-requires
-    proving-value-requires
-    work-code-requires
-    proof-code-requires
-    proof-at-requires
-    proof-len-requires
-    returns)
+    (tie.spec no-show-requires said-proving-requires kept-proof-requires lay-requires returns)

@@ -1,37 +1,25 @@
--- Each word is its field.
+-- The answer, the ask and what is kept, laid out.
+use mathlib.Core.Path.{_∙_}
 use borrow.Author.Needs.{needs}
 use Rattle.calls.proofs.desk.encoded_desk.Statement.{statement}
 use Rattle.calls.proofs.desk.encoded_desk.Tie as tie
 
-encoding-code-requires : tie.Need-encoding-code-requires
-encoding-code-requires c κs = search needs
+said-encoding-requires : tie.Need-said-encoding-requires
+said-encoding-requires c κs = search needs
 
-encoding-value-requires : tie.Need-encoding-value-requires
-encoding-value-requires c κs = search needs
+no-show-requires : tie.Need-no-show-requires
+no-show-requires c κs = search needs
 
-work-code-requires : tie.Need-work-code-requires
-work-code-requires c κs = search needs
+kept-sealing-requires : tie.Need-kept-sealing-requires
+kept-sealing-requires c κs = search needs
 
-sealing-code-requires : tie.Need-sealing-code-requires
-sealing-code-requires c κs = search needs
-
-sealing-end-requires : tie.Need-sealing-end-requires
-sealing-end-requires c κs = search needs
-
-sealing-len-requires : tie.Need-sealing-len-requires
-sealing-len-requires c κs = search needs
+lay-requires : tie.Need-lay-requires
+lay-requires c κs = search needs
 
 returns : tie.Need-returns
-returns c = simp (c .sealing-len .ensures, c .before .sealing-end .ensures, c .before .before .sealing-code .ensures, c .before .before .before .work-code .ensures, c .before .before .before .before .encoding-value .ensures, c .before .before .before .before .before .encoding-code .ensures)
+returns c = c .lay .ensures ∙ simp (c .before .kept-sealing .ensures, c .before .before .no-show .ensures, c .before .before .before .said-encoding .ensures)
 
 pub encoded-desk-spec : {M : Type 1} → statement M
 encoded-desk-spec =
     tie.close
-    (tie.spec
-    encoding-code-requires
-    encoding-value-requires
-    work-code-requires
-    sealing-code-requires
-    sealing-end-requires
-    sealing-len-requires
-    returns)
+    (tie.spec said-encoding-requires no-show-requires kept-sealing-requires lay-requires returns)

@@ -1,16 +1,15 @@
--- Nothing is open where the word is 0 or no type has it.
+-- Nothing is open where the code is 0 or no type has it.
 use mathlib.Core.Path.{sym}
 use borrow.Author.Tests.{eq-eqb, ne-eqb}
 use Rattle.serialize.specs.Choice.{pick}
 use Rattle.calls.specs.Desk.{openingOf}
-use borrow.Author.Tests.{ne-eqb}
 use borrow.Author.Needs.{needs}
 use Rattle.calls.proofs.desk.opening_of.Statement.{statement}
 use Rattle.calls.proofs.desk.opening_of.Tie as tie
 
 returns : tie.Need-returns
 unfolding openingOf pick
-returns c = simp (eq-eqb (c .before .args .kept) 0 (c .if1 .taken))
+returns c = simp (eq-eqb (c .before .before .args .kept .code) 0 (c .if1 .taken))
 
 kept-type-requires : tie.Need-kept-type-requires
 kept-type-requires c κs = search needs
@@ -23,11 +22,11 @@ enum-told c = search needs
 
 returns-2 : tie.Need-returns-2
 unfolding openingOf pick
-returns-2 c = let s = c .before .before .before .before .before .args in simp (ne-eqb (s .kept) 0 (c .before .before .before .before .if1 .left), sym (c .before .before .before .kept-type .ensures), c .before .kind .given .1)
+returns-2 c = let s = c .before .before .before .before .before .before .args in simp (ne-eqb (s .kept .code) 0 (c .before .before .before .before .if1 .left), sym (c .before .before .before .kept-type .ensures), c .before .kind .given .1)
 
 returns-3 : tie.Need-returns-3
 unfolding openingOf pick
-returns-3 c = let s = c .before .before .before .before .args in simp (ne-eqb (s .kept) 0 (c .before .before .before .if1 .left), sym (c .before .before .kept-type .ensures), c .enum-told .given .1)
+returns-3 c = let s = c .before .before .before .before .before .args in simp (ne-eqb (s .kept .code) 0 (c .before .before .before .if1 .left), sym (c .before .before .kept-type .ensures), c .enum-told .given .1)
 
 pub opening-of-spec : {M : Type 1} → statement M
 opening-of-spec =

@@ -1,20 +1,13 @@
 -- The answer to what the desk has kept, and the window that it leaves.
+use mathlib.Core.Path.{ap, _∙_}
 use Rattle.calls.proofs.Laid.{answer-open-laid}
+use Rattle.calls.specs.Desk.{openingOf}
 use borrow.Author.Needs.{needs}
 use Rattle.calls.proofs.packets.pump_answer_open.Statement.{statement}
 use Rattle.calls.proofs.packets.pump_answer_open.Tie as tie
 
-element-copy-out-opening-of : tie.Need-element-copy-out-opening-of
-element-copy-out-opening-of c = search needs
-
-element-copy-out-opening-of-2 : tie.Need-element-copy-out-opening-of-2
-element-copy-out-opening-of-2 c = search needs
-
-element-copy-out-opening-of-3 : tie.Need-element-copy-out-opening-of-3
-element-copy-out-opening-of-3 c = search needs
-
-element-copy-out-opening-of-4 : tie.Need-element-copy-out-opening-of-4
-element-copy-out-opening-of-4 c = search needs
+kept-on-requires : tie.Need-kept-on-requires
+kept-on-requires c κs = search needs
 
 opening-of-requires : tie.Need-opening-of-requires
 opening-of-requires c κs = search needs
@@ -33,17 +26,14 @@ store-window-requires c κs = search needs
 
 returns : tie.Need-returns
 returns c =
-    let a = c .before .before .before .before .before .before .before .before .before .before .before .before .before .before .args in
-    answer-open-laid _ _ (c .before .before .before .before .before .answer-open .result) _ _ (a .words .now) (a .datagram .now) (a .guarded) (a .window .now) (a .granted) (c .before .before .before .before .before .before .before .before .opening-of .ensures) (c .before .before .before .before .before .before .guard-of .ensures) (c .before .before .before .before .before .answer-open .ensures) (c .before .before .before .before .decoded-desk .ensures) (c .store-window .ensures)
+    let a = c .before .before .before .before .before .before .before .before .before .before .before .before .args in
+    answer-open-laid _ _ (c .before .before .before .before .before .answer-open .result) _ _ (a .words .now) (a .datagram .now) (a .guarded) (a .window .now) (a .granted) (c .before .before .before .before .before .before .before .before .opening-of .ensures ∙ ap openingOf (c .before .before .before .before .before .before .before .before .before .kept-on .ensures)) (c .before .before .before .before .before .before .guard-of .ensures) (c .before .before .before .before .before .answer-open .ensures) (c .before .before .before .before .decoded-desk .ensures) (c .store-window .ensures)
 
 pub pump-answer-open-spec : {M : Type 1} → statement M
 pump-answer-open-spec =
     tie.close
     (tie.spec
-    element-copy-out-opening-of
-    element-copy-out-opening-of-2
-    element-copy-out-opening-of-3
-    element-copy-out-opening-of-4
+    kept-on-requires
     opening-of-requires
     guard-of-requires
     answer-open-requires

@@ -1,17 +1,13 @@
 -- The answer to what the desk has kept.
+use mathlib.Core.Path.{ap, _∙_}
 use Rattle.calls.proofs.Laid.{answer-challenge-laid}
+use Rattle.calls.specs.Desk.{proofOpeningOf}
 use borrow.Author.Needs.{needs}
 use Rattle.calls.proofs.tokens.pump_answer_challenge.Statement.{statement}
 use Rattle.calls.proofs.tokens.pump_answer_challenge.Tie as tie
 
-element-copy-out-proof-opening-of : tie.Need-element-copy-out-proof-opening-of
-element-copy-out-proof-opening-of c = search needs
-
-element-copy-out-proof-opening-of-2 : tie.Need-element-copy-out-proof-opening-of-2
-element-copy-out-proof-opening-of-2 c = search needs
-
-element-copy-out-proof-opening-of-3 : tie.Need-element-copy-out-proof-opening-of-3
-element-copy-out-proof-opening-of-3 c = search needs
+kept-on-requires : tie.Need-kept-on-requires
+kept-on-requires c κs = search needs
 
 proof-opening-of-requires : tie.Need-proof-opening-of-requires
 proof-opening-of-requires c κs = search needs
@@ -24,16 +20,14 @@ challenged-desk-requires c κs = search needs
 
 returns : tie.Need-returns
 returns c =
-    let a = c .before .before .before .before .before .before .before .before .before .args in
-    answer-challenge-laid _ (c .before .before .before .answer-challenge .result) _ (a .words .now) (a .token-data .now) (a .granted) (c .before .before .before .before .proof-opening-of .ensures) (c .before .before .before .answer-challenge .ensures) (c .before .before .challenged-desk .ensures)
+    let a = c .before .before .before .before .before .before .before .before .args in
+    answer-challenge-laid _ (c .before .before .before .answer-challenge .result) _ (a .words .now) (a .token-data .now) (a .granted) (c .before .before .before .before .proof-opening-of .ensures ∙ ap proofOpeningOf (c .before .before .before .before .before .kept-on .ensures)) (c .before .before .before .answer-challenge .ensures) (c .before .before .challenged-desk .ensures)
 
 pub pump-answer-challenge-spec : {M : Type 1} → statement M
 pump-answer-challenge-spec =
     tie.close
     (tie.spec
-    element-copy-out-proof-opening-of
-    element-copy-out-proof-opening-of-2
-    element-copy-out-proof-opening-of-3
+    kept-on-requires
     proof-opening-of-requires
     answer-challenge-requires
     challenged-desk-requires
