@@ -1,5 +1,6 @@
-//! Every row of docs/DIFFERENCES.md, by its number, on both sides. Where the two builds of the Rust
-//! differ, a row says both, and `checked` tells which one this is.
+//! Every row of docs/DIFFERENCES.md, by its number: on both sides, or of ours alone where the Rust has no
+//! such case (18, 19, 28). Where the two builds of the Rust differ, a row says both, and `checked` tells
+//! which one this is.
 
 mod common;
 mod heads;
