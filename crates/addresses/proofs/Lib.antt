@@ -1,0 +1,4 @@
+pub mod Chain
+pub mod Ways
+pub mod Meaning
+pub mod Determined

@@ -1,0 +1,4 @@
+pub mod Layout
+pub mod Finds
+pub mod Columns
+pub mod Keys
