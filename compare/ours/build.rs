@@ -1,4 +1,5 @@
-//! Links our static library, `libcalls.a`, from where `rt staticlib calls` writes it or from OURS_LIB.
+//! Links our two static libraries, `libcalls.a` and `libtable_calls.a`, from where `rt staticlib` writes
+//! them or from OURS_LIB.
 
 use std::env;
 use std::path::PathBuf;
@@ -10,8 +11,10 @@ fn main() {
         None => PathBuf::from(env::var_os("CARGO_MANIFEST_DIR").expect("cargo sets it"))
             .join("../../target/staticlib"),
     };
-    let archive = folder.join("libcalls.a");
-    println!("cargo:rerun-if-changed={}", archive.display());
     println!("cargo:rustc-link-search=native={}", folder.display());
-    println!("cargo:rustc-link-lib=static=calls");
+    for library in ["calls", "table_calls"] {
+        let archive = folder.join(format!("lib{library}.a"));
+        println!("cargo:rerun-if-changed={}", archive.display());
+        println!("cargo:rustc-link-lib=static={library}");
+    }
 }

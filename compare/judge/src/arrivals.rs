@@ -62,7 +62,7 @@ impl Arrivals {
             key: Some(self.key),
             window: Some(self.window.clone()),
         });
-        if let Some(window) = judge.put(case)? {
+        if let Some(window) = judge.put(case)?.window {
             self.window = window;
         }
         Ok(())

@@ -2,8 +2,10 @@
 
 use std::fmt;
 
+use crate::tables::{Entries, Hosts, Moment, Slots};
 use crate::text::{hex, window_text};
 
+pub use crate::call::Call;
 pub use oracle::calls::{Fields, Window};
 
 pub type Key = [u8; 32];
@@ -44,6 +46,10 @@ pub enum Case {
     Decode(Decode),
     Challenge(Box<Challenge>),
     Proof(Proof),
+    Entries(Entries),
+    Slots(Slots),
+    Hosts(Hosts),
+    Moment(Moment),
 }
 
 #[derive(Debug, Clone, PartialEq, Eq)]
@@ -87,37 +93,6 @@ pub struct Proof {
     pub key: Key,
 }
 
-#[derive(Debug, Clone, Copy, PartialEq, Eq, PartialOrd, Ord)]
-pub enum Call {
-    Prefix,
-    Unprefix,
-    Sequence,
-    Additional,
-    Private,
-    Window,
-    Encode,
-    Decode,
-    Challenge,
-    Proof,
-}
-
-impl Call {
-    pub fn name(self) -> &'static str {
-        match self {
-            Call::Prefix => "prefix",
-            Call::Unprefix => "unprefix",
-            Call::Sequence => "sequence",
-            Call::Additional => "additional",
-            Call::Private => "private",
-            Call::Window => "window",
-            Call::Encode => "encode",
-            Call::Decode => "decode",
-            Call::Challenge => "challenge",
-            Call::Proof => "proof",
-        }
-    }
-}
-
 impl Case {
     pub fn call(&self) -> Call {
         match self {
@@ -131,6 +106,10 @@ impl Case {
             Case::Decode(_) => Call::Decode,
             Case::Challenge(_) => Call::Challenge,
             Case::Proof(_) => Call::Proof,
+            Case::Entries(_) => Call::Entry,
+            Case::Slots(case) => case.call(),
+            Case::Hosts(_) => Call::Hosts,
+            Case::Moment(moment) => moment.call(),
         }
     }
 }
@@ -174,6 +153,10 @@ impl fmt::Display for Case {
             Case::Decode(case) => case.fmt(f),
             Case::Challenge(case) => case.fmt(f),
             Case::Proof(case) => case.fmt(f),
+            Case::Entries(case) => case.fmt(f),
+            Case::Slots(case) => case.fmt(f),
+            Case::Hosts(case) => case.fmt(f),
+            Case::Moment(moment) => moment.fmt(f),
         }
     }
 }

@@ -3,7 +3,11 @@
 mod decode;
 mod diff;
 mod encode;
+pub mod entries;
 mod heads;
+mod hosts;
+pub mod moments;
+pub mod slots;
 mod tokens;
 mod windows;
 
@@ -16,8 +20,12 @@ pub use diff::{refused_desk, Diff};
 #[derive(Debug, Clone, Copy, PartialEq, Eq, PartialOrd, Ord)]
 pub enum Did {
     Refused(u8),
+    /// Also a yes.
     Done,
+    No,
     Panicked,
+    /// The Rust has no such input.
+    Absent,
     /// Ours ended in something that is no answer.
     Broken,
 }
@@ -35,9 +43,16 @@ pub enum Class {
     OldAdvance,
     ShortBuffer,
     WideType,
+    FewEntries,
+    LongNanos,
+    OddTimeout,
+    ClockEnd,
+    PastEnd,
+    DueEnd,
+    LaterThan,
 }
 
-/// What the Rust did with a call of such a class; `changed` is its window, buffer or byte.
+/// What the Rust did with a call of such a class; `changed` is its window, buffer, byte or clock.
 #[derive(Debug, Clone, Copy, PartialEq, Eq, PartialOrd, Ord)]
 pub struct Beyond {
     pub class: Class,
@@ -55,7 +70,7 @@ pub enum Verdict {
 
 #[derive(Debug)]
 pub struct Report {
-    /// The packet's type, where the answer has one.
+    /// The packet's type, where the answer has one, or the sort of answer.
     pub kind: Option<u8>,
     pub rust: Did,
     pub ours: Did,
@@ -63,6 +78,8 @@ pub struct Report {
     pub beyond: Vec<Beyond>,
     /// The Rust's window after a decode in the domain.
     pub window: Option<Box<Window>>,
+    /// The place that a token's use was written to.
+    pub written: Option<usize>,
 }
 
 impl Report {
@@ -74,6 +91,7 @@ impl Report {
             verdict,
             beyond: Vec::new(),
             window: None,
+            written: None,
         }
     }
 
@@ -94,6 +112,10 @@ pub fn check(case: &Case) -> Report {
         Case::Decode(case) => decode::check(case),
         Case::Challenge(case) => tokens::challenge(case),
         Case::Proof(case) => tokens::proof(case),
+        Case::Entries(case) => entries::check(case),
+        Case::Slots(case) => slots::check(case),
+        Case::Hosts(case) => hosts::check(case),
+        Case::Moment(moment) => moments::check(moment),
     }
 }
 
@@ -126,5 +148,22 @@ fn did<T>(call: Call, result: &Result<T, Fault>) -> Did {
     match result {
         Ok(_) => Did::Done,
         Err(fault) => Did::Refused(number(call, *fault)),
+    }
+}
+
+/// Ours, of a call that answers yes or no, or refuses.
+fn answered(number: u8) -> Did {
+    match number {
+        0 => Did::No,
+        1 => Did::Done,
+        number => Did::Refused(number),
+    }
+}
+
+fn yes(is: bool) -> Did {
+    if is {
+        Did::Done
+    } else {
+        Did::No
     }
 }

@@ -1,6 +1,6 @@
 //! Puts one case after the other to both sides and keeps the books.
 
-use crate::case::{Case, Window};
+use crate::case::Case;
 use crate::check::{check, Report};
 use crate::sample::Sample;
 use crate::table::Table;
@@ -23,19 +23,19 @@ impl Judge {
         }
     }
 
-    /// The Rust's window after a decode in the domain, for a run of arrivals to go on with.
-    pub fn put(&mut self, case: Case) -> Result<Option<Box<Window>>, Found> {
+    /// What came of it, for a run of cases to go on with.
+    pub fn put(&mut self, case: Case) -> Result<Report, Found> {
         let report = check(&case);
         if report.differs() {
             return Err(Found(Box::new(case)));
         }
         self.book(&case, &report);
-        Ok(report.window)
+        Ok(report)
     }
 
     fn book(&mut self, case: &Case, report: &Report) {
         self.table.count(case, report);
-        if let Some(sample) = &mut self.sample {
+        if let (Some(sample), true) = (&mut self.sample, case.call().is_sampled()) {
             sample.offer(case, report);
         }
         self.tried += 1;

@@ -29,6 +29,7 @@ pub fn line(case: &Case) -> Option<String> {
         Case::Decode(case) => decode(case),
         Case::Challenge(case) => challenge(case),
         Case::Proof(case) => proof(case),
+        Case::Entries(_) | Case::Slots(_) | Case::Hosts(_) | Case::Moment(_) => None,
     }?;
     (line.len() <= 16_000).then_some(line)
 }

@@ -2,6 +2,7 @@
 
 mod alone;
 mod arrivals;
+mod call;
 mod case;
 mod check;
 mod datagrams;
@@ -17,8 +18,11 @@ mod sample;
 mod shrink;
 mod shrink_tokens;
 mod table;
+mod tables;
 mod text;
+mod wanted;
 mod windows;
+mod words;
 
 use std::process::ExitCode;
 
@@ -55,27 +59,13 @@ fn main() -> ExitCode {
 
 fn compare(options: &Options) -> Result<(), String> {
     let mut judge = Judge::new(options.sample.as_ref().map(|_| Sample::default()));
-    let mut rng = Rng::new(options.seed);
-    let mut run = || {
-        exhaustive::run(&mut judge, &mut rng)?;
-        if let Some(sample) = &mut judge.sample {
-            sample.next_part();
-        }
-        random::run(&mut judge, &mut rng, options.cases)
-    };
-    let runs = run().map_err(|found| difference(&found))?;
-    let alone = alone::run(&mut rng)?;
+    let tried = cases(&mut judge, options)?;
     let table = &judge.table;
     println!(
         "{} cases in the domain, {} outside it",
         table.inside, table.outside
     );
-    println!(
-        "{} of all were drawn, with {runs} runs of arrivals through one window",
-        options.cases
-    );
-    println!("{alone} runs of ours alone: answers without an ask or with another buffer, and more");
-    println!();
+    println!("{tried}\n");
     table.print();
     println!();
     outside(table);
@@ -89,6 +79,27 @@ fn compare(options: &Options) -> Result<(), String> {
         [] => Ok(()),
         missing => Err(format!("not reached:\n  {}", missing.join("\n  "))),
     }
+}
+
+/// Tries all of them, and says how many were drawn.
+fn cases(judge: &mut Judge, options: &Options) -> Result<String, String> {
+    let mut rng = Rng::new(options.seed);
+    let mut run = || {
+        exhaustive::run(judge, &mut rng)?;
+        if let Some(sample) = &mut judge.sample {
+            sample.next_part();
+        }
+        let runs = random::run(judge, &mut rng, options.cases)?;
+        Ok((runs, tables::run(judge, options.seed, options.cases)?))
+    };
+    let (runs, tables) = run().map_err(|found| difference(&found))?;
+    let alone = alone::run(&mut rng)? + tables::alone::run(options.seed)?;
+    Ok(format!(
+        "{} of packets, windows and tokens were drawn, with {runs} runs of arrivals through one window\n\
+         {} of tables and times were drawn, with {} histories of one table of token entries\n\
+         {alone} runs of ours alone: answers without an ask or with another buffer, and more",
+        options.cases, tables.cases, tables.histories
+    ))
 }
 
 fn difference(found: &Found) -> String {
@@ -111,10 +122,10 @@ fn outside(table: &Table) {
     let mut last = None;
     for (beyond, seen) in &table.beyond {
         if last != Some(beyond.class) {
-            println!("{}", table::class_text(beyond.class));
+            println!("{}", words::class_text(beyond.class));
             last = Some(beyond.class);
         }
-        println!("  {:>9} times {}", seen.count, table::beyond_text(beyond));
+        println!("  {:>9} times {}", seen.count, words::beyond_text(beyond));
         println!("            as with: {}", smallest(beyond, &seen.least));
     }
 }

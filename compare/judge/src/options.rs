@@ -39,7 +39,9 @@ fn number(value: &str) -> Result<u64, String> {
 pub fn quieten() {
     let shown = take_hook();
     set_hook(Box::new(move |panic| {
-        let original = |file: &str| file.contains("docs/src/src/");
+        // A sum of times that passes its range panics inside the standard library.
+        let files = ["docs/src/src/", "/library/core/src/time.rs"];
+        let original = |file: &str| files.iter().any(|part| file.contains(part));
         if !panic.location().is_some_and(|at| original(at.file())) {
             shown(panic);
         }

@@ -77,8 +77,9 @@ impl Sample {
                 *taken > 0 && sort.call == *call && sort.did == *did && alike
             })
         };
-        let unlike = |row: &&Row| **row != (Call::Challenge, Did::Refused(24), None);
-        let missing = table.rust_rows().filter(unlike).filter(|row| !shown(row));
+        let lined =
+            |row: &&Row| row.0.is_sampled() && **row != (Call::Challenge, Did::Refused(24), None);
+        let missing = table.rust_rows().filter(lined).filter(|row| !shown(row));
         missing
             .map(|row| format!("the sample has no line of {row:?}"))
             .collect()

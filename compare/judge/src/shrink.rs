@@ -50,6 +50,9 @@ fn simpler(case: &Case) -> Vec<Case> {
         Case::Encode(case) => encodes(case).into_iter().map(Case::Encode).collect(),
         Case::Decode(case) => decodes(case).into_iter().map(Case::Decode).collect(),
         Case::Challenge(_) | Case::Proof(_) => crate::shrink_tokens::simpler(case),
+        Case::Entries(_) | Case::Slots(_) | Case::Hosts(_) | Case::Moment(_) => {
+            crate::tables::simpler(case)
+        }
     }
 }
 

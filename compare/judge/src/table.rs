@@ -3,7 +3,10 @@
 use std::collections::BTreeMap;
 
 use crate::case::{Call, Case};
-use crate::check::{Beyond, Class, Did, Report, Verdict};
+use crate::check::{Beyond, Did, Report, Verdict};
+use crate::tables::{Fill, Place, Sparse};
+use crate::wanted::wanted;
+use crate::words::{answer, name};
 
 pub type Row = (Call, Did, Option<u8>);
 
@@ -86,7 +89,7 @@ impl Table {
                 ),
             ] {
                 if !reached {
-                    let kind = kind.map_or(String::new(), |kind| format!(", type {kind}"));
+                    let kind = kind.map_or(String::new(), |kind| format!(", {}", name(call, kind)));
                     missing.push(format!(
                         "{}: {}{kind}: {side}",
                         call.name(),
@@ -100,7 +103,7 @@ impl Table {
 
     pub fn print(&self) {
         println!(
-            "{:<11}{:<10}{:<12}{:>11}{:>11}",
+            "{:<11}{:<10}{:<14}{:>9}{:>11}",
             "call", "answer", "type", "ours", "Rust"
         );
         let mut rows: Vec<&Row> = self.ours.keys().chain(self.rust.keys()).collect();
@@ -110,10 +113,10 @@ impl Table {
             let (call, did, kind) = *row;
             let ours = self.ours.get(row).copied().unwrap_or(0);
             let rust = self.rust.get(row).copied().unwrap_or(0);
-            let kind = kind.map_or("", name);
+            let kind = kind.map_or("", |kind| name(call, kind));
             let answer = answer(call, did);
             print!(
-                "{:<11}{answer:<10}{kind:<12}{ours:>11}{rust:>11}",
+                "{:<11}{answer:<10}{kind:<14}{ours:>9}{rust:>11}",
                 call.name()
             );
             println!("{}", self.instead_text(row));
@@ -131,87 +134,6 @@ impl Table {
     }
 }
 
-const ALL: &[u8] = &[0, 1, 2, 3, 4, 5, 6];
-const SEALED: &[u8] = &[1, 2, 3, 4, 5, 6];
-const WINDOWED: &[u8] = &[4, 5, 6];
-
-/// The refusals of packets, each with the types that can have it.
-const REFUSALS: [(Call, u8, &[u8]); 10] = [
-    (Call::Decode, 3, SEALED),
-    (Call::Decode, 4, SEALED),
-    (Call::Decode, 5, WINDOWED),
-    (Call::Decode, 6, WINDOWED),
-    (Call::Decode, 7, SEALED),
-    (Call::Decode, 8, SEALED),
-    (Call::Decode, 9, &[0, 2, 3, 4]),
-    (Call::Encode, 3, SEALED),
-    (Call::Encode, 14, ALL),
-    (Call::Encode, 24, SEALED),
-];
-
-/// The refusals that have no type.
-const UNTYPED: [(Call, u8); 8] = [
-    (Call::Decode, 1),
-    (Call::Decode, 2),
-    (Call::Sequence, 4),
-    (Call::Sequence, 7),
-    (Call::Window, 5),
-    (Call::Window, 6),
-    (Call::Challenge, 24),
-    (Call::Proof, 8),
-];
-
-const PLAIN: [Call; 8] = [
-    Call::Prefix,
-    Call::Unprefix,
-    Call::Sequence,
-    Call::Additional,
-    Call::Private,
-    Call::Window,
-    Call::Challenge,
-    Call::Proof,
-];
-
-/// Each refusal with each type that can have it, and each type written and read.
-fn wanted() -> Vec<Row> {
-    let mut rows: Vec<Row> = PLAIN.map(|call| (call, Did::Done, None)).into();
-    rows.extend(UNTYPED.map(|(call, number)| (call, Did::Refused(number), None)));
-    for (call, number, kinds) in REFUSALS {
-        let row = |kind: &u8| (call, Did::Refused(number), Some(*kind));
-        rows.extend(kinds.iter().map(row));
-    }
-    for call in [Call::Encode, Call::Decode] {
-        rows.extend(ALL.iter().map(|kind| (call, Did::Done, Some(*kind))));
-    }
-    rows
-}
-
-fn name(kind: u8) -> &'static str {
-    const NAMES: [&str; 7] = [
-        "request",
-        "denied",
-        "challenge",
-        "response",
-        "keep-alive",
-        "payload",
-        "disconnect",
-    ];
-    NAMES.get(usize::from(kind)).unwrap_or(&"no type")
-}
-
-fn answer(call: Call, did: Did) -> String {
-    match did {
-        Did::Refused(number) => number.to_string(),
-        Did::Panicked => "panicked".into(),
-        Did::Broken => "broken".into(),
-        Did::Done => match call {
-            Call::Encode | Call::Challenge | Call::Prefix => "written".into(),
-            Call::Window => "accepted".into(),
-            _ => "read".into(),
-        },
-    }
-}
-
 /// Shorter inputs count as less, and of two equally short ones the one with less in its window.
 fn size(case: &Case) -> usize {
     match case {
@@ -225,63 +147,26 @@ fn size(case: &Case) -> usize {
             1000 * case.out.len() + 100 * case.packet.bytes.len() + bits
         }
         Case::Decode(case) => 1000 * case.datagram.len() + case.window.as_deref().map_or(0, places),
+        Case::Entries(case) => told(&case.table),
+        Case::Slots(case) => told(&case.table),
+        Case::Hosts(case) => case.list.len() + case.ours.len(),
+        Case::Moment(moment) => {
+            let words = moment.times().map(|time| time.words()).concat();
+            words
+                .iter()
+                .map(|word| 64 - word.leading_zeros() as usize)
+                .sum()
+        }
         _ => 0,
     }
+}
+
+fn told<P: Place>(table: &Sparse<P>) -> usize {
+    let drawn = matches!(table.fill, Fill::Drawn(_));
+    10_000 * usize::from(drawn) + 10 * table.named.len() + table.places
 }
 
 fn places(window: &crate::case::Window) -> usize {
     let used = window[1..].iter().filter(|place| **place != u64::MAX);
     2 * used.count() + usize::from(window[0] != 0)
-}
-
-/// A class in words, with what ours does.
-pub fn class_text(class: Class) -> &'static str {
-    match class {
-        Class::LongCount => "decode, over 8 sequence bytes claimed (ours 4)",
-        Class::HighGuarded => "decode, windowed, sequence from 2^64-256 on, a window (ours 5)",
-        Class::HighUnguarded => "decode, windowed, sequence from 2^64-256 on, no window (ours 5)",
-        Class::ShortPart => "decode, under 16 bytes after the sequence (ours 7)",
-        Class::LongRead => "read_sequence of over 8 bytes (ours 4)",
-        Class::HighTest => "window, test from 2^64-256 on (ours 5)",
-        Class::HighAdvance => "window, advance from 2^64-256 on (ours: as it was)",
-        Class::OldAdvance => "window, advance by one that is received (ours: as it was)",
-        Class::ShortBuffer => "encode into a short buffer (ours 14, the buffer as it was)",
-        Class::WideType => "encode_prefix of a type over 15 (ours: its low four bits)",
-    }
-}
-
-/// What the Rust did, in words.
-pub fn beyond_text(beyond: &Beyond) -> String {
-    let did = match beyond.did {
-        Did::Panicked | Did::Broken => "panicked".into(),
-        Did::Refused(_) if beyond.class == Class::HighTest => "received".into(),
-        Did::Refused(number) => format!("refused as {number}"),
-        Did::Done => match beyond.class {
-            Class::HighTest => "not received".into(),
-            Class::HighAdvance | Class::OldAdvance => "advanced".into(),
-            Class::WideType => "written".into(),
-            _ => "read".into(),
-        },
-    };
-    let what = match beyond.class {
-        Class::LongRead | Class::HighTest => return did,
-        Class::ShortBuffer => "buffer",
-        Class::WideType => {
-            return format!(
-                "{did}, {}",
-                if beyond.changed {
-                    "another byte"
-                } else {
-                    "the same"
-                }
-            )
-        }
-        _ => "window",
-    };
-    let changed = if beyond.changed {
-        "changed"
-    } else {
-        "as it was"
-    };
-    format!("{did}, {what} {changed}")
 }

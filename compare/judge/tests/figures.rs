@@ -1,7 +1,11 @@
-//! Document 01's figures of packets and window ("Figures on both sides"), from the Rust and from ours.
+//! Document 01's figures of packets, window and timeout ("Figures on both sides"), from the Rust and from
+//! ours.
+
+use std::time::Duration;
 
 use oracle::calls::{self as rust, Answer, Fault, Fields};
-use ours::{calls, Packet};
+use oracle::tables::{update_client, Updated};
+use ours::{calls, tables, Packet};
 
 const KEY: [u8; 32] = [3; 32];
 
@@ -106,4 +110,25 @@ fn the_window() {
     assert!(!received(&fresh, u64::MAX - 256));
     // The Rust's sum wraps or panics here: docs/DIFFERENCES.md, row 7.
     assert_eq!(calls::refusal(&fresh, u64::MAX - 255), 5);
+}
+
+/// Whether a client is timed out, as both sides say: received at 10 s, a timeout of 15.
+fn timed_out(now: Duration) -> bool {
+    let received = Duration::from_secs(10);
+    let updated = is(update_client(now, received, now, 15)) == Updated::Disconnected;
+    let words = [now.as_secs(), now.subsec_nanos().into()];
+    assert_eq!(tables::time_past([10, 0], 15, words), updated.into());
+    updated
+}
+
+#[test]
+fn a_timeout() {
+    let last = Duration::from_secs(25);
+    assert!(!timed_out(last));
+    assert!(timed_out(last + Duration::from_nanos(1)));
+    // The test for a timeout over 0 is the server's, which calls the sum after it.
+    for never in [0, -1] {
+        let updated = update_client(Duration::MAX, Duration::ZERO, Duration::ZERO, never);
+        assert_eq!(is(updated), Updated::KeptAlive);
+    }
 }

@@ -102,7 +102,7 @@ fn answer<T>(done: Option<T>) -> Answer<T> {
     }
 }
 
-fn caught<T>(work: impl FnOnce() -> T) -> Answer<T> {
+pub(crate) fn caught<T>(work: impl FnOnce() -> T) -> Answer<T> {
     answer(catch_unwind(AssertUnwindSafe(work)).ok())
 }
 

@@ -4,11 +4,13 @@
 
 pub mod calls;
 mod fields;
+pub mod tables;
 
 /// The original's own types, for measurements without the plain interface in between.
 pub mod raw {
     pub use crate::packet::{ChallengeToken, Packet, PacketType};
     pub use crate::replay_protection::ReplayProtection;
+    pub use crate::server::peek::{Entries, Slots};
 }
 
 // The formatter follows a path and would change the original, hence the skips.
@@ -36,6 +38,7 @@ mod replay_protection {
 }
 mod server {
     include!("../../../docs/src/src/server.rs");
+    pub mod peek;
 }
 mod token {
     include!("../../../docs/src/src/token.rs");

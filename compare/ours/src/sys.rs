@@ -99,4 +99,53 @@ extern "C" {
         words: *mut [u64; 16],
         user_data: *mut [u8; 256],
     );
+
+    pub fn pump_time_add(
+        secs: u64,
+        nanos: u64,
+        step_secs: u64,
+        step_nanos: u64,
+        out: *mut [u64; 2],
+    ) -> u8;
+    pub fn pump_time_before(a_secs: u64, a_nanos: u64, b_secs: u64, b_nanos: u64) -> u8;
+    pub fn pump_time_past(secs: u64, nanos: u64, timeout: u32, now_secs: u64, now_nanos: u64)
+        -> u8;
+    pub fn pump_time_due(secs: u64, nanos: u64, now_secs: u64, now_nanos: u64) -> u8;
+    pub fn pump_time_since(
+        now_secs: u64,
+        now_nanos: u64,
+        secs: u64,
+        nanos: u64,
+        out: *mut [u64; 2],
+    );
+
+    pub fn pump_find_by_address(
+        t: *const u64,
+        t_len: usize,
+        kind: u8,
+        bytes: *const [u8; 16],
+        port: u16,
+        place: *mut [u64; 1],
+    ) -> u8;
+    pub fn pump_find_by_id(t: *const u64, t_len: usize, client_id: u64, place: *mut [u64; 1])
+        -> u8;
+    pub fn pump_find_free(t: *const u64, t_len: usize, place: *mut [u64; 1]) -> u8;
+    pub fn pump_count_used(t: *const u64, t_len: usize, count: *mut [u64; 1]) -> u8;
+    pub fn pump_address(kind: u8, bytes: *const [u8; 16], port: u16, out: *mut [u64; 3]) -> u8;
+    pub fn pump_any_ours(
+        list: *const u64,
+        list_len: usize,
+        ours: *const u64,
+        ours_len: usize,
+    ) -> u8;
+    pub fn pump_find_or_add_entry(
+        table: *mut u8,
+        table_len: usize,
+        secs: u64,
+        nanos: u64,
+        kind: u8,
+        bytes: *const [u8; 16],
+        port: u16,
+        mac: *const [u8; 16],
+    ) -> u8;
 }

@@ -1,6 +1,6 @@
 -- What a place's mark says, by the one test of it that the definitions make.
 use mathlib.Core.Path.{_≡_, sym, ap, _∙_}
-use mathlib.Core.Bool.{Bool, true, false, not, _&&_}
+use mathlib.Core.Bool.{Bool, true, false, not, _&&_, and-true, and-false}
 use mathlib.Core.List.{List}
 use Prim.Native.Nat.{ℕ}
 use lib.ListN.{getD}
@@ -36,3 +36,12 @@ module _ (t : List ℕ) (k : ℕ) (mac : List ℕ) (i : ℕ) where
   pub used-match : (getD t i 0 ≡ 0 → ⊥) → matchAt t k mac i ≡ alike (macAt t k i) (part mac 0 16)
   unfolding matchAt
   used-match d = ap (λ (b : Bool). b && alike (macAt t k i) (part mac 0 16)) (used-place t i d)
+
+  -- as the code asks it: the bytes first, and then the mark
+  pub other-bytes : alike (macAt t k i) (part mac 0 16) ≡ false → false ≡ matchAt t k mac i
+  unfolding matchAt
+  other-bytes e = sym (ap (λ (b : Bool). usedAt t i && b) e ∙ and-false (usedAt t i))
+
+  pub same-bytes-match : alike (macAt t k i) (part mac 0 16) ≡ true → usedAt t i ≡ matchAt t k mac i
+  unfolding matchAt
+  same-bytes-match e = sym (ap (λ (b : Bool). usedAt t i && b) e ∙ and-true (usedAt t i))

@@ -56,15 +56,16 @@ pub fn address_at(entries: &[u8], k: usize, i: usize) -> Address
     }
 }
 
-// Place i is used by a token with these bytes.
+// Place i is used by a token with these bytes. Few have them, so the mark is looked at last.
 pub fn is_match(entries: &[u8], k: usize, i: usize, mac: &[u8; NETCODE_MAC_BYTES]) -> bool
     requires { ⌜ Shaped (now entries) k × (i < k) ⌝ }
     ensures { λ r. ⌜ r ≡ matchAt (now (entries .entry)) k (now (mac .entry)) i ⌝ }
 {
-    if entries[i] == 0 {
-        return false;
+    if serialize::same_bytes(entries, k + BODY_BYTES * i + MAC, mac, 0, NETCODE_MAC_BYTES) {
+        is_used(entries, i)
+    } else {
+        false
     }
-    serialize::same_bytes(entries, k + BODY_BYTES * i + MAC, mac, 0, NETCODE_MAC_BYTES)
 }
 
 fn write_address(entries: &mut [u8], at: usize, address: Address)

@@ -1,7 +1,7 @@
 -- What a search finds is the lowest place that passes its test, by the laws of `firstFrom`, and a test passes exactly for the key that it
 -- asks for.
 use mathlib.Core.Path.{_≡_, refl, sym, ap, ap₂, _∙_}
-use mathlib.Core.Bool.{Bool, true, false, _&&_}
+use mathlib.Core.Bool.{true≢false, and-eq-true-iff, Bool, true, false, _&&_}
 use mathlib.Core.Logic.{_↔_}
 use Prim.Native.Nat.{ℕ, zero, suc, _+_, _<_}
 use native.Mathlib.Nat.{add-zero}
@@ -24,12 +24,8 @@ use Rattle.places.specs.Columns.{Field, Within, fieldAt, fieldOf, id, ad
 use Rattle.places.specs.Keys.{Keyed, LowestOf, NoneOf}
 use Rattle.places.proofs.Frame.{field-inside}
 
-both-true : (a b : Bool) → a && b ≡ true → (a ≡ true) × (b ≡ true)
-both-true true b h = (refl, h)
-both-true false b h = let z : _≡_ {A = ℕ} 0 1 = cc in absurd (omega arith)
-
 pub true-false : {b : Bool} → b ≡ true → b ≡ false → ⊥
-true-false p q = let e : true ≡ false = sym p ∙ q in let z : _≡_ {A = ℕ} 0 1 = cc in omega arith
+true-false p q = true≢false (sym p ∙ q)
 
 not-holding : (b : Bool) → (b ≡ true → ⊥) → b ≡ false
 not-holding true h = absurd (h refl)
@@ -104,8 +100,8 @@ module _ (t : List ℕ) (n : ℕ) (shape : Shaped t n) where
   unfolding hasId
   id-test x i h =
       let w = one-word i id (omega arith) h refl (n + i) x (add-zero (n + i)) in (
-        λ e. let b = both-true (usedAt t i) (eqb (idOf t n i) x) e in (b .0, w .1 (eqb-true (idOf t n i) x (b .1))),
-        λ k. ap₂ (λ (a b : Bool). a && b) (k .0) (eq-eqb (idOf t n i) x (w .0 (k .1))),
+        λ e. let b = and-eq-true-iff (usedAt t i) (eqb (idOf t n i) x) .0 e in (b .0, w .1 (eqb-true (idOf t n i) x (b .1))),
+        λ k. and-eq-true-iff (usedAt t i) (eqb (idOf t n i) x) .1 (k .0, eq-eqb (idOf t n i) x (w .0 (k .1))),
       )
 
   pub address-test : (a : Address) (i : ℕ) → i < n → (hasAddress t n (firstWord a) (a .low) (a .high) i ≡ true) ↔ Keyed t n addr (wordsOf a) i
@@ -114,7 +110,7 @@ module _ (t : List ℕ) (n : ℕ) (shape : Shaped t n) where
       let at = addressAt n i in
       let w = three-words i addr (omega arith) h refl at (firstWord a) (a .low) (a .high) (add-zero at) in
       let x = has-words-exactly t at (firstWord a) (a .low) (a .high) in (
-        λ e. let b = both-true (usedAt t i) (hasWords t at (firstWord a) (a .low) (a .high)) e in (b .0, w .1 (x .0 (b .1))),
+        λ e. let b = and-eq-true-iff (usedAt t i) (hasWords t at (firstWord a) (a .low) (a .high)) .0 e in (b .0, w .1 (x .0 (b .1))),
         λ k. ap₂ (λ (p q : Bool). p && q) (k .0) (x .1 (w .0 (k .1))),
       )
 

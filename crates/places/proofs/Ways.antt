@@ -1,7 +1,7 @@
 -- A place without the key is not found, and of one with it the mark decides; a table that passes the three tests of its length has as many
 -- whole places.
-use mathlib.Core.Path.{_≡_, refl, sym, ap, _∙_}
-use mathlib.Core.Bool.{Bool, true, false, not, _&&_}
+use mathlib.Core.Path.{_≡_, sym, ap, _∙_}
+use mathlib.Core.Bool.{Bool, true, false, not, _&&_, and-true, and-false}
 use Prim.Native.Nat.{ℕ, _%_, _≤_}
 use native.Mathlib.Omega.{arith}
 use mathlib.Core.List.{List}
@@ -13,14 +13,6 @@ use Rattle.serialize.proofs.Choice.{by-test}
 use Rattle.addresses.specs.Addresses.{hasWords}
 use Rattle.places.specs.Layout.{Shaped, placeWords, count, placesRefusal, usedAt, idOf, addressAt}
 use Rattle.places.specs.Finds.{hasAddress, hasId}
-
-and-false : (b : Bool) → b && false ≡ false
-and-false true = refl
-and-false false = refl
-
-and-true : (b : Bool) → b && true ≡ b
-and-true true = refl
-and-true false = refl
 
 -- marks other than 1 are used
 pub marked-used : (t : List ℕ) (i : ℕ) → (getD t i 0 ≡ 0 → ⊥) → usedAt t i ≡ true

@@ -8,10 +8,10 @@ use mathlib.Core.List.{List, [], _∷_}
 use lib.ListN.{length, getD, getD-replicate, length-replicate}
 use lib.Seq.{getD-set-same}
 use Rattle.serialize.specs.declared.Found.the-variants.{At, Nothing}
-use Rattle.serialize.specs.Runs.{splice, zeros}
-use Rattle.serialize.proofs.Lists.{getD-splice-in}
+use Rattle.serialize.specs.Runs.{part, splice, zeros}
+use Rattle.serialize.proofs.Lists.{length-part, getD-splice-in}
 use Rattle.addresses.specs.Addresses.{wordsOf}
-use Rattle.places.specs.Layout.{Shaped, bodyWords}
+use Rattle.places.specs.Layout.{Shaped, addressAt, bodyAt, bodyWords, idOf}
 use Rattle.places.specs.Finds.{findAddress, findId, usedCount}
 use Rattle.places.specs.Columns.{Field, Within, id, addr, Elsewhere}
 use Rattle.places.specs.Keys.{Keyed, LowestOf, NoneOf, Distinct}
@@ -21,7 +21,7 @@ use Rattle.places.proofs.Searches.{Free, address-found, address-none, id-found,
 use Rattle.places.proofs.Counted.{count-taken, count-emptied, all-free-count}
 use Rattle.places.proofs.Apart.{mark-kept, used-kept, distinct-emptied, distinct-filled}
 use Rattle.records.specs.declared.Connection.{Connection}
-use Rattle.records.specs.Records.{bodyOf, placed, filled, emptied}
+use Rattle.records.specs.Records.{bodyOf, placed, filled, emptied, moved}
 use Rattle.records.specs.Reads.{Sized}
 use Rattle.records.proofs.Kept.{emptied-elsewhere, placed-elsewhere}
 use Rattle.records.proofs.ReadBack.{placed-mark, placed-used, placed-id, placed-address}
@@ -113,6 +113,27 @@ module _ (t : List ℕ) (n i : ℕ) (shape : Shaped t n) (here : i < n) (c : Con
 
   pub filled-count : getD t i 0 ≡ 0 → usedCount (filled t n i c) n ≡ usedCount t n + 1
   filled-count = placed-count t n i shape here (c .«client_id») (wordsOf (c .addr)) (bodyOf c) refl (body-length c sized)
+
+  -- and the other places are as they were
+  pub filled-elsewhere : Elsewhere n i t (filled t n i c)
+  filled-elsewhere = placed-elsewhere t n i shape here (c .«client_id») (wordsOf (c .addr)) (bodyOf c) refl (body-length c sized)
+
+-- ---- moving, where no used slot has the record's address or its id
+
+module _ (slots : List ℕ) (n i : ℕ) (pending : List ℕ) (m j : ℕ) (shape : Shaped slots n) (here : i < n) (from : Shaped pending m) (there : j < m) where
+  words : List ℕ
+  words = part pending (addressAt m j) 3
+
+  body : List ℕ
+  body = part pending (bodyAt m j) bodyWords
+
+  pub moved-distinct-addresses : NoneOf (Keyed slots n addr (part pending (addressAt m j) 3)) n → Distinct addr slots n → Distinct addr (moved slots n i pending m j) n
+  unfolding words body
+  moved-distinct-addresses = placed-distinct-addresses slots n i shape here (idOf pending m j) words body (length-part pending (addressAt m j) 3 (omega (arith, from .long))) (length-part pending (bodyAt m j) bodyWords (omega (arith, from .long)))
+
+  pub moved-distinct-ids : NoneOf (Keyed slots n id (idOf pending m j ∷ [])) n → Distinct id slots n → Distinct id (moved slots n i pending m j) n
+  unfolding words body
+  moved-distinct-ids = placed-distinct-ids slots n i shape here (idOf pending m j) words body (length-part pending (addressAt m j) 3 (omega (arith, from .long))) (length-part pending (bodyAt m j) bodyWords (omega (arith, from .long)))
 
 -- ---- set-up: every place is free
 

@@ -11,9 +11,10 @@ use lib.Seq.{getD-set-same}
 use Rattle.serialize.specs.Runs.{part, splice}
 use Rattle.serialize.proofs.Lists.{length-part, part-part, part-splice-in, set-splice}
 use Rattle.places.specs.Layout.{Shaped, idAt, addressAt, bodyAt, bodyWords, usedMark, usedAt, idOf}
-use Rattle.places.specs.Columns.{Marks, Bodies, Field, field, Within, fieldAt, fieldOf, mark, id, addr}
+use Rattle.places.specs.Columns.{Elsewhere, Marks, Bodies, Field, field, Within, fieldAt, fieldOf, mark, id, addr}
 use Rattle.places.proofs.Frame.{shaped-kept, put-reads, put-elsewhere, store-elsewhere, elsewhere-put, fields-apart}
-use Rattle.records.specs.Records.{placed, moved}
+use Rattle.records.specs.Records.{placed, emptied, moved}
+use Rattle.records.proofs.Kept.{placed-elsewhere}
 
 -- a mark's store leaves the place's other columns
 unmarked : (t : List ℕ) (n i : ℕ) → Shaped t n → i < n → (g : Field) → Within g → (Marks ≡ g .column → ⊥) → (v : ℕ) → fieldOf (set t i v) n i g ≡ fieldOf t n i g
@@ -21,6 +22,10 @@ unmarked t n i shape here g w d v =
     let e : fieldAt mark n i + 0 ≡ i = omega arith in
     ap (λ (j : ℕ). fieldOf (set t j v) n i g) (sym e)
     ∙ store-elsewhere t n i i shape mark g (omega arith) w here here (fields-apart mark g n i i (omega arith) w here here (λ c k. d c)) 0 v (omega arith)
+
+-- so emptying changes nothing else of the place either
+pub emptied-rest : (t : List ℕ) (n i : ℕ) → Shaped t n → i < n → (g : Field) → Within g → (Marks ≡ g .column → ⊥) → fieldOf (emptied t i) n i g ≡ fieldOf t n i g
+emptied-rest t n i shape here g w d = unmarked t n i shape here g w d 0
 
 -- and a body's splice
 unembodied : (t : List ℕ) (n i : ℕ) → Shaped t n → i < n → (g : Field) → Within g → (Bodies ≡ g .column → ⊥) → (body : List ℕ) → length body ≡ bodyWords
@@ -107,3 +112,7 @@ module _ (slots : List ℕ) (n i : ℕ) (pending : List ℕ) (m j : ℕ) (shape 
 
   pub moved-id : fieldOf (moved slots n i pending m j) n i id ≡ idOf pending m j ∷ []
   moved-id = placed-id slots n i shape here (idOf pending m j) (part pending (addressAt m j) 3) (part pending (bodyAt m j) bodyWords) three full
+
+  -- and the other slots are as they were
+  pub moved-elsewhere : Elsewhere n i slots (moved slots n i pending m j)
+  moved-elsewhere = placed-elsewhere slots n i shape here (idOf pending m j) (part pending (addressAt m j) 3) (part pending (bodyAt m j) bodyWords) three full

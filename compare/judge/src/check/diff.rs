@@ -47,6 +47,23 @@ impl Diff {
         }
     }
 
+    /// Of long tables, which are of one length, the first place that differs.
+    pub fn table<T: Copy + Into<u64> + PartialEq>(
+        &mut self,
+        what: &str,
+        expected: &[T],
+        ours: &[T],
+    ) {
+        if expected == ours {
+            return;
+        }
+        let mut pairs = expected.iter().zip(ours);
+        if let Some(at) = pairs.position(|(expected, ours)| expected != ours) {
+            let [expected, ours] = [expected, ours].map(|table| number_text(table[at].into()));
+            self.add(&format!("{what}, at {at}"), &expected, &ours);
+        }
+    }
+
     pub fn broken(&mut self, broken: &Option<String>) {
         if let Some(what) = broken {
             self.add("a nonsense of ours", "none", what);

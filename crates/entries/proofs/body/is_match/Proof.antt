@@ -1,17 +1,9 @@
--- An empty place is no match, and a used one is where its sixteen bytes are the same.
+-- Other bytes are no match; of a place with these the mark decides.
 use mathlib.Core.Path.{sym, _∙_}
-use Rattle.entries.proofs.Marks.{empty-never-matches, used-match}
+use Rattle.entries.proofs.Marks.{other-bytes, same-bytes-match}
 use borrow.Author.Needs.{needs}
 use Rattle.entries.proofs.body.is_match.Statement.{statement}
 use Rattle.entries.proofs.body.is_match.Tie as tie
-
-shared-slice-read-if1 : tie.Need-shared-slice-read-if1
-shared-slice-read-if1 c = search needs
-
-returns : tie.Need-returns
-returns c =
-    let a = c .before .before .before .args in
-    sym (empty-never-matches (a .entries .now) (a .k) (a .mac .now) (a .i) (c .if1 .taken))
 
 mul-same-bytes : tie.Need-mul-same-bytes
 mul-same-bytes c = search needs
@@ -25,20 +17,29 @@ add-same-bytes-2 c = search needs
 same-bytes-requires : tie.Need-same-bytes-requires
 same-bytes-requires c κs = search needs
 
-returns-2 : tie.Need-returns-2
-returns-2 c =
+is-used-requires : tie.Need-is-used-requires
+is-used-requires c κs = search needs
+
+returns : tie.Need-returns
+returns c =
     let s = c .before .before in
     let a = s .before .before .before .args in
-    c .same-bytes .ensures ∙ sym (used-match (a .entries .now) (a .k) (a .mac .now) (a .i) (s .if1 .left))
+    c .is-used .ensures ∙ same-bytes-match (a .entries .now) (a .k) (a .mac .now) (a .i) (sym (s .same-bytes .ensures) ∙ c .before .if1 .taken)
+
+returns-2 : tie.Need-returns-2
+returns-2 c =
+    let s = c .before in
+    let a = s .before .before .before .args in
+    other-bytes (a .entries .now) (a .k) (a .mac .now) (a .i) (sym (s .same-bytes .ensures) ∙ c .if1 .left)
 
 pub is-match-spec : {M : Type 1} → statement M
 is-match-spec =
     tie.close
     (tie.spec
-    shared-slice-read-if1
-    returns
     mul-same-bytes
     add-same-bytes
     add-same-bytes-2
     same-bytes-requires
+    is-used-requires
+    returns
     returns-2)
