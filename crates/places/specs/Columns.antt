@@ -5,6 +5,7 @@ use mathlib.Core.Path.{_≡_}
 use mathlib.Core.List.{List}
 use lib.ListN.{length}
 use Rattle.serialize.specs.Runs.{part}
+use Rattle.replay_protection.specs.Ours.{width}
 use Rattle.places.specs.Layout.{idAt, addressAt, bodyAt, bodyWords}
 
 pub data Column : Type 0 where
@@ -85,7 +86,7 @@ abbrev pub userData : Field
 userData = field Bodies 16 32
 
 abbrev pub window : Field
-window = field Bodies 48 257
+window = field Bodies 48 (1 + width)
 
 -- ---- what a write leaves
 

@@ -63,4 +63,4 @@ module _ (t : List ℕ) (n i : ℕ) (shape : Shaped t n) (here : i < n) where
 
     pub window-same : SameColumns n t (putWindow t (windowPlace n i) win)
     unfolding putWindow
-    window-same = body-put t n i shape here 48 257 (omega arith) (windowPlace n i) (omega arith) (win .most ∷ win .ring) (omega arith)
+    window-same = body-put t n i shape here 48 (1 + width) (omega arith) (windowPlace n i) (omega arith) (win .most ∷ win .ring) (omega arith)

@@ -15,7 +15,7 @@ use Rattle.addresses.specs.declared.Address.{Address}
 use Rattle.addresses.specs.Addresses.{firstWord, wordsOf}
 use Rattle.replay_protection.specs.Stored.{putWindow}
 use Rattle.replay_protection.specs.Ours.{windowOf}
-use Rattle.places.specs.Layout.{idAt, addressAt, bodyAt}
+use Rattle.places.specs.Layout.{idAt, addressAt, bodyAt, bodyWords}
 use Rattle.records.specs.declared.Connection.{Connection}
 use Rattle.records.specs.Records.{putTime, bytesAt, bit, numbersOf, bodyOf, placed}
 
@@ -74,7 +74,7 @@ pub body-written : (l t u v w : List ℕ) (at : ℕ) (c : Connection)
     → v ≡ splice u (at + 16) (words 32 (c .«user_data»))
     → w ≡ putWindow v (at + 48) (windowOf (c .«replay_protection»))
     → length w ≡ length v
-    → at + 305 ≤ length l
+    → at + bodyWords ≤ length l
     → w ≡ splice l at (bodyOf c)
 unfolding bodyOf putWindow
 body-written l t u v w at c e f g k n h =

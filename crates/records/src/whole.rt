@@ -6,7 +6,7 @@ ghost use lib.ListN.{length};
 ghost use Rattle.serialize.specs.Runs.{splice, zeros};
 ghost use Rattle.serialize.specs.Le.{words};
 ghost use Rattle.addresses.specs.Addresses.{wordsOf};
-ghost use Rattle.places.specs.Layout.{Shaped};
+ghost use Rattle.places.specs.Layout.{Shaped, bodyWords};
 ghost use Rattle.records.specs.Records.{bit, bodyOf, filled, emptied, moved};
 use crate::Connection;
 use crate::fields;
@@ -60,7 +60,7 @@ fn put_numbers(
 }
 
 fn put_body(t: &mut [u64], at: usize, connection: Connection)
-    requires { ⌜ at + 305 ≤ length (now t) ⌝ }
+    requires { ⌜ at + bodyWords ≤ length (now t) ⌝ }
     ensures { λ _. ⌜ now (t .exit) ≡ splice (now (t .entry)) at (bodyOf connection) ⌝ }
 {
     put_keys(
