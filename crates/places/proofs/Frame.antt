@@ -4,12 +4,13 @@ use mathlib.Core.Path.{_≡_, refl, sym, ap, _∙_}
 use mathlib.Core.Logic.{_⊎_, ⊎-elim}
 use Prim.Native.Nat.{ℕ, _+_, _*_, _≤_, _<_}
 use native.Mathlib.Omega.{arith}
-use mathlib.Core.List.{List}
+use mathlib.Core.List.{List, _++_}
 use lib.ListN.{length, set, length-set}
 use Rattle.serialize.specs.Runs.{part, splice}
-use Rattle.serialize.proofs.Lists.{length-splice, part-splice-other, part-splice-same, part-set-other}
-use Rattle.places.specs.Layout.{Shaped}
-use Rattle.places.specs.Columns.{Column, Marks, Ids, Addresses, Bodies, wide, columnAt, Field, field, Within, fieldAt, fieldOf, Elsewhere}
+use Rattle.serialize.proofs.Lists.{part-add, length-splice, part-splice-other, part-splice-same, part-set-other}
+use Rattle.replay_protection.specs.Ours.{width}
+use Rattle.places.specs.Layout.{Shaped, bodyAt, bodyWords}
+use Rattle.places.specs.Columns.{Column, Marks, Ids, Addresses, Bodies, wide, columnAt, Field, field, Within, fieldAt, fieldOf, Elsewhere, confirmed, sendKey, receiveKey, received, sent, timeout, sequence, expiry, userData, window}
 
 -- ---- where fields lie
 
@@ -113,3 +114,31 @@ module _ (t : List ℕ) (n i : ℕ) (shape : Shaped t n) (here : i < n) (f : Fie
         ap (λ (x : ℕ). fieldOf (set t x v) n j g) (sym e)
         ∙ store-elsewhere t n i j shape f g inF w here p (fields-apart f g n i j inF w here p (λ c. h)) q v k;
   }
+
+-- ---- a body is its fields, one after the other: they cover it, and none overlaps another
+
+module _ (t : List ℕ) (b : ℕ) where
+  -- what is covered so far, and the next field
+  next : {l : List ℕ} (m k q r : ℕ) → l ≡ part t (b + 0) m → q ≡ m → m + k ≡ r → l ++ part t (b + q) k ≡ part t (b + 0) r
+  next m k q r e f g =
+      let p : b + q ≡ b + 0 + m = omega arith in
+      ap (λ (x : List ℕ). x ++ part t (b + q) k) e
+      ∙ ap (λ (j : ℕ). part t (b + 0) m ++ part t j k) p
+      ∙ sym (part-add t (b + 0) m k)
+      ∙ ap (part t (b + 0)) g
+
+pub body-tiles : (t : List ℕ) (n i : ℕ)
+    → fieldOf t n i (field Bodies 0 bodyWords)
+    ≡ fieldOf t n i confirmed ++ fieldOf t n i sendKey ++ fieldOf t n i receiveKey ++ fieldOf t n i received ++ fieldOf t n i sent ++ fieldOf t n i timeout
+    ++ fieldOf t n i sequence ++ fieldOf t n i expiry ++ fieldOf t n i userData ++ fieldOf t n i window
+body-tiles t n i =
+    let b = bodyAt n i in
+    let e1 = next t b 1 4 1 5 refl refl refl in
+    let e2 = next t b 5 4 5 9 e1 refl refl in
+    let e3 = next t b 9 2 9 11 e2 refl refl in
+    let e4 = next t b 11 2 11 13 e3 refl refl in
+    let e5 = next t b 13 1 13 14 e4 refl refl in
+    let e6 = next t b 14 1 14 15 e5 refl refl in
+    let e7 = next t b 15 1 15 16 e6 refl refl in
+    let e8 = next t b 16 32 16 48 e7 refl refl in
+    sym (next t b 48 (1 + width) 48 bodyWords e8 refl refl)
