@@ -1,0 +1,5 @@
+pub mod State
+pub mod Ready
+pub mod Answers
+pub mod Asking
+pub mod Held
