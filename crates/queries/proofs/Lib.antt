@@ -1,0 +1,5 @@
+pub mod Ways
+pub mod Listed
+pub mod Filled
+pub mod Answers
+pub mod Determined
