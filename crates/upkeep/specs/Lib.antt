@@ -1,0 +1,4 @@
+pub mod SetUps
+pub mod Fresh
+pub mod Clocks
+pub mod Limits
