@@ -234,8 +234,8 @@ module _ (s : NetcodeServer) (pending : List ℕ) (duration : Time) where
 
 pub record Capped (s : NetcodeServer) (wish : ℕ) (o : Step) : Type 0 where
   pub else : o ≡ step (withLimit s (o .server .«max_clients»)) Nothing
-  pub most : o .server .«max_clients» ≤ 1024
   pub wished : wish ≤ 1024 → o .server .«max_clients» ≡ wish
+  pub capped : 1024 ≤ wish → o .server .«max_clients» ≡ 1024
 
 module _ (s : NetcodeServer) (wish : ℕ) where
   -- it is capped, and is otherwise the wish, whatever the number of slots
@@ -244,7 +244,7 @@ module _ (s : NetcodeServer) (wish : ℕ) where
   limit-capped e =
       subst (Capped s wish)
       (limit-done s wish (callRefusal (s .ask) 0) refl (idle-passes (s .ask) 0 e) (min wish 1024) refl (withLimit s (min wish 1024)) refl)
-      (record { else = refl; most = omega arith; wished = λ h. omega arith })
+      (record { else = refl; wished = λ h. omega arith; capped = λ h. omega arith })
 
   -- 16 while an ask is open, and the record as it was
   pub limit-refused : (s .ask .stage ≡ Idle → ⊥) → limited s wish ≡ refused s 16
