@@ -14,7 +14,7 @@ use Rattle.entries.specs.Layout as entry
 use Rattle.server.specs.declared.OpenAsk.{OpenAsk}
 use Rattle.server.specs.declared.SetUp.{SetUp}
 use Rattle.server.specs.declared.Stage.{Stage}
-use Rattle.server.specs.declared.Stage.the-variants.{Idle, Packet, Token, Challenge, Denied, ChallengeToken, ChallengePacket, Connecting, Sending, Ending}
+use Rattle.server.specs.declared.Stage.the-variants.{Idle, Packet, Token, Challenge, Seal}
 use Rattle.server.specs.Ready.{lengthRefusal, slotsRefusal, pendingRefusal, entriesRefusal, listRefusal, before, bothRefusal, allRefusal, kindOf, callRefusal, misfits, unfit, answerRefusal}
 
 -- ---- tables: 23
@@ -110,12 +110,7 @@ idle-only Idle h = refl
 idle-only (Packet a b c d e) h = absurd (omega arith)
 idle-only (Token a b c d) h = absurd (omega arith)
 idle-only (Challenge a b) h = absurd (omega arith)
-idle-only (Denied a b c) h = absurd (omega arith)
-idle-only (ChallengeToken a b c) h = absurd (omega arith)
-idle-only (ChallengePacket a b c) h = absurd (omega arith)
-idle-only (Connecting a b c d) h = absurd (omega arith)
-idle-only (Sending a b c) h = absurd (omega arith)
-idle-only (Ending a b c) h = absurd (omega arith)
+idle-only (Seal a b c) h = absurd (omega arith)
 
 pub idle-is-0 : (stage : Stage) → stage ≡ Idle → kindOf stage ≡ 0
 unfolding kindOf

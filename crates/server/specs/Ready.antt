@@ -8,7 +8,9 @@ use Rattle.places.specs.Layout.{placeWords}
 use Rattle.server.specs.declared.SetUp.{SetUp}
 use Rattle.server.specs.declared.OpenAsk.{OpenAsk}
 use Rattle.server.specs.declared.Stage.{Stage}
-use Rattle.server.specs.declared.Stage.the-variants.{Idle, Packet, Token, Challenge, Denied, ChallengeToken, ChallengePacket, Connecting, Sending, Ending}
+use Rattle.server.specs.declared.Stage.the-variants.{Idle, Packet, Token, Challenge, Seal}
+use Rattle.server.specs.declared.Goal.{Goal}
+use Rattle.server.specs.declared.Goal.the-variants.{Denied, ChallengeToken, ChallengePacket, Connecting, Sending, Ending}
 
 -- ---- 23: a length unlike set-up's
 
@@ -46,12 +48,7 @@ kindOf Idle = 0
 kindOf (Packet connected place kind sequence start) = 1
 kindOf (Token addr expiry low high) = 2
 kindOf (Challenge place start) = 1
-kindOf (Denied addr sequence end) = 3
-kindOf (ChallengeToken addr sequence end) = 3
-kindOf (ChallengePacket addr sequence end) = 3
-kindOf (Connecting place slot sequence end) = 3
-kindOf (Sending slot sequence end) = 3
-kindOf (Ending id addr end) = 3
+kindOf (Seal goal sequence end) = 3
 
 -- ---- 16, 23
 
@@ -71,18 +68,25 @@ misplaced place places room at n = leb places place || ltb room (at + n)
 unfoldable pub overrun : ℕ → ℕ → ℕ → Bool
 overrun sequence end out = eqb sequence (2 ^ 64 - 1) || ltb out end
 
+-- a seal for a slot or a pending place that there is not
+unfoldable pub goalMisfits : Goal → ℕ → ℕ → Bool
+goalMisfits (Denied addr) slots pending = false
+goalMisfits (ChallengeToken addr) slots pending = false
+goalMisfits (ChallengePacket addr) slots pending = false
+goalMisfits (Connecting place slot) slots pending = leb pending place || leb slots slot
+goalMisfits (Sending slot) slots pending = leb slots slot
+goalMisfits (Ending id addr) slots pending = false
+
+unfoldable pub sealMisfits : Goal → ℕ → ℕ → ℕ → ℕ → ℕ → Bool
+sealMisfits goal sequence end slots pending out = goalMisfits goal slots pending || overrun sequence end out
+
 -- an ask that no call leaves: of a place, a part or a counter that there is not. Of slots and pending places, datagram and output.
 unfoldable pub misfits : Stage → ℕ → ℕ → ℕ → ℕ → Bool
 misfits Idle slots pending datagram out = false
 misfits (Packet connected place kind sequence start) slots pending datagram out = misplaced place (roomOf connected slots pending) datagram start 16
 misfits (Token addr expiry low high) slots pending datagram out = false
 misfits (Challenge place start) slots pending datagram out = misplaced place pending datagram start 300
-misfits (Denied addr sequence end) slots pending datagram out = overrun sequence end out
-misfits (ChallengeToken addr sequence end) slots pending datagram out = overrun sequence end out
-misfits (ChallengePacket addr sequence end) slots pending datagram out = overrun sequence end out
-misfits (Connecting place slot sequence end) slots pending datagram out = leb pending place || (leb slots slot || overrun sequence end out)
-misfits (Sending slot sequence end) slots pending datagram out = leb slots slot || overrun sequence end out
-misfits (Ending id addr end) slots pending datagram out = ltb out end
+misfits (Seal goal sequence end) slots pending datagram out = sealMisfits goal sequence end slots pending out
 
 -- 18: another kind, a datagram or an output of another length, or an ask that does not fit
 unfoldable pub unfit : OpenAsk → ℕ → SetUp → ℕ → ℕ → Bool

@@ -50,8 +50,19 @@ pub struct Counters {
     pub challenge_sequence: u64,
 }
 
+// What a sealed packet is for, and so what its yes does: denied; a challenge's token, and then the packet around it; the keep-alive
+// that connects the pump at a pending place; a payload or keep-alive of a slot; a disconnect of a slot that is emptied already.
+pub enum Goal {
+    Denied { addr: Address },
+    ChallengeToken { addr: Address },
+    ChallengePacket { addr: Address },
+    Connecting { place: usize, slot: usize },
+    Sending { slot: usize },
+    Ending { client_id: u64, addr: Address },
+}
+
 // Which step goes on when the host answers, and what that step needs. A packet's place is a slot's if it came from a connected
-// address, else a pending one's; `sequence` is the counter that was used, `end` the length of the packet in the output.
+// address, else a pending one's; of a seal `sequence` is the counter that was used, `end` the length of the packet in the output.
 pub enum Stage {
     Idle,
     Packet {
@@ -71,35 +82,9 @@ pub enum Stage {
         place: usize,
         start: usize,
     },
-    Denied {
-        addr: Address,
+    Seal {
+        goal: Goal,
         sequence: u64,
-        end: usize,
-    },
-    ChallengeToken {
-        addr: Address,
-        sequence: u64,
-        end: usize,
-    },
-    ChallengePacket {
-        addr: Address,
-        sequence: u64,
-        end: usize,
-    },
-    Connecting {
-        place: usize,
-        slot: usize,
-        sequence: u64,
-        end: usize,
-    },
-    Sending {
-        slot: usize,
-        sequence: u64,
-        end: usize,
-    },
-    Ending {
-        client_id: u64,
-        addr: Address,
         end: usize,
     },
 }

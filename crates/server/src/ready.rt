@@ -2,7 +2,8 @@
 // after it for an answer. Each gives the number, or 0.
 ghost use mathlib.Core.Path.{_≡_};
 ghost use Prim.Native.Nat.{_≤_};
-ghost use Rattle.server.specs.Ready.{kindOf, roomOf, misplaced, overrun, misfits, unfit, lengthRefusal, slotsRefusal, pendingRefusal, bothRefusal, entriesRefusal, listRefusal, allRefusal, callRefusal, answerRefusal};
+ghost use Rattle.server.specs.Ready.{kindOf, roomOf, misplaced, overrun, goalMisfits, sealMisfits, misfits, unfit, lengthRefusal, slotsRefusal, pendingRefusal, bothRefusal, entriesRefusal, listRefusal, allRefusal, callRefusal, answerRefusal};
+use crate::Goal;
 use crate::OpenAsk;
 use crate::SetUp;
 use crate::Stage;
@@ -142,12 +143,7 @@ fn kind_of(stage: Stage) -> u8
         Stage::Packet { .. } => OPENS,
         Stage::Token { .. } => GRANTS,
         Stage::Challenge { .. } => OPENS,
-        Stage::Denied { .. } => SEALS,
-        Stage::ChallengeToken { .. } => SEALS,
-        Stage::ChallengePacket { .. } => SEALS,
-        Stage::Connecting { .. } => SEALS,
-        Stage::Sending { .. } => SEALS,
-        Stage::Ending { .. } => SEALS,
+        Stage::Seal { .. } => SEALS,
     }
 }
 
@@ -178,6 +174,42 @@ fn overrun(sequence: u64, end: usize, out: usize) -> bool
     out < end
 }
 
+// Whether a seal is for a slot or a pending place that there is not.
+fn goal_misfits(goal: Goal, slots: usize, pending: usize) -> bool
+    ensures { λ r. ⌜ r ≡ goalMisfits goal slots pending ⌝ }
+{
+    match goal {
+        Goal::Denied { .. } => false,
+        Goal::ChallengeToken { .. } => false,
+        Goal::ChallengePacket { .. } => false,
+        Goal::Connecting { place, slot } => {
+            if place >= pending {
+                return true;
+            }
+            slot >= slots
+        }
+        Goal::Sending { slot } => slot >= slots,
+        Goal::Ending { .. } => false,
+    }
+}
+
+// The same of a seal whole: its counter and its packet besides.
+fn seal_misfits(
+    goal: Goal,
+    sequence: u64,
+    end: usize,
+    slots: usize,
+    pending: usize,
+    out: usize,
+) -> bool
+    ensures { λ r. ⌜ r ≡ sealMisfits goal sequence end slots pending out ⌝ }
+{
+    if goal_misfits(goal, slots, pending) {
+        return true;
+    }
+    overrun(sequence, end, out)
+}
+
 // Whether the open ask speaks of places, parts or counters that there are not: no call leaves such a record.
 fn misfits(stage: Stage, slots: usize, pending: usize, datagram: usize, out: usize) -> bool
     ensures { λ r. ⌜ r ≡ misfits stage slots pending datagram out ⌝ }
@@ -190,61 +222,19 @@ fn misfits(stage: Stage, slots: usize, pending: usize, datagram: usize, out: usi
             kind: _,
             sequence: _,
             start,
-        } => misplaced(
-            place,
-            room_of(connected, slots, pending),
-            datagram,
-            start,
-            TAG,
-        ),
+        } => {
+            let places = room_of(connected, slots, pending);
+            misplaced(place, places, datagram, start, TAG)
+        }
         Stage::Token { .. } => false,
         Stage::Challenge { place, start } => {
             misplaced(place, pending, datagram, start, CHALLENGE_TOKEN)
         }
-        Stage::Denied {
-            addr: _,
+        Stage::Seal {
+            goal,
             sequence,
             end,
-        } => overrun(sequence, end, out),
-        Stage::ChallengeToken {
-            addr: _,
-            sequence,
-            end,
-        } => overrun(sequence, end, out),
-        Stage::ChallengePacket {
-            addr: _,
-            sequence,
-            end,
-        } => overrun(sequence, end, out),
-        Stage::Connecting {
-            place,
-            slot,
-            sequence,
-            end,
-        } => {
-            if place >= pending {
-                return true;
-            }
-            if slot >= slots {
-                return true;
-            }
-            overrun(sequence, end, out)
-        }
-        Stage::Sending {
-            slot,
-            sequence,
-            end,
-        } => {
-            if slot >= slots {
-                return true;
-            }
-            overrun(sequence, end, out)
-        }
-        Stage::Ending {
-            client_id: _,
-            addr: _,
-            end,
-        } => out < end,
+        } => { seal_misfits(goal, sequence, end, slots, pending, out) }
     }
 }
 
