@@ -1,5 +1,5 @@
-//! Links our two static libraries, `libcalls.a` and `libtable_calls.a`, from where `rt staticlib` writes
-//! them or from OURS_LIB.
+//! Links our two static libraries, `libcalls.a` and `libtable_calls.a`, and the harness's own,
+//! `libserver_calls.a`, from where `rt staticlib` writes the first two or from OURS_LIB.
 
 use std::env;
 use std::path::PathBuf;
@@ -12,7 +12,7 @@ fn main() {
             .join("../../target/staticlib"),
     };
     println!("cargo:rustc-link-search=native={}", folder.display());
-    for library in ["calls", "table_calls"] {
+    for library in ["calls", "table_calls", "server_calls"] {
         let archive = folder.join(format!("lib{library}.a"));
         println!("cargo:rerun-if-changed={}", archive.display());
         println!("cargo:rustc-link-lib=static={library}");

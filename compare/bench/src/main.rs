@@ -3,11 +3,12 @@
 //! What is measured: the original's `encode` and `decode` as a program calls them, each with one call
 //! of the idle cipher inside; ours as a host calls them through C: the call, the idle cipher on the
 //! part that the ask names, the answer. The original is compiled into this program and may be inlined;
-//! ours can't be. The searches are one call on either side, on the table that each side keeps. What is
-//! not measured: the cipher, and the work of a server around these calls.
+//! ours can't be. The searches, the clock and the queries are one call on either side, on the tables that
+//! each side keeps. What is not measured: the cipher, and the work of a server around these calls.
 
 mod packets;
 mod rounds;
+mod servers;
 mod tables;
 mod windows;
 
@@ -24,6 +25,7 @@ fn main() {
     .into_iter()
     .chain(windows::rows())
     .chain([tables::by_address(), tables::by_id(), tables::find_or_add()])
+    .chain(servers::rows())
     .collect();
     println!(
         "time per call; medians of {} rounds, the ratio with its least and most over the rounds",

@@ -23,6 +23,17 @@ pub enum Call {
     Past,
     Due,
     Since,
+    Update,
+    Limit,
+    SetUp,
+    Connected,
+    ClientsId,
+    ClientsSlot,
+    IsConnected,
+    ClientAddr,
+    UserData,
+    Heard,
+    Addresses,
 }
 
 impl Call {
@@ -54,6 +65,17 @@ impl Call {
             Call::Past => "past",
             Call::Due => "due",
             Call::Since => "since",
+            Call::Update => "update",
+            Call::Limit => "limit",
+            Call::SetUp => "set-up",
+            Call::Connected => "connected",
+            Call::ClientsId => "ids",
+            Call::ClientsSlot => "slots",
+            Call::IsConnected => "is client",
+            Call::ClientAddr => "client at",
+            Call::UserData => "user data",
+            Call::Heard => "heard",
+            Call::Addresses => "addresses",
         }
     }
 }

@@ -2,6 +2,7 @@
 
 use std::fmt;
 
+use crate::servers::Server;
 use crate::tables::{Entries, Hosts, Moment, Slots};
 use crate::text::{hex, window_text};
 
@@ -50,6 +51,7 @@ pub enum Case {
     Slots(Slots),
     Hosts(Hosts),
     Moment(Moment),
+    Server(Server),
 }
 
 #[derive(Debug, Clone, PartialEq, Eq)]
@@ -110,6 +112,7 @@ impl Case {
             Case::Slots(case) => case.call(),
             Case::Hosts(_) => Call::Hosts,
             Case::Moment(moment) => moment.call(),
+            Case::Server(case) => case.call(),
         }
     }
 }
@@ -157,6 +160,7 @@ impl fmt::Display for Case {
             Case::Slots(case) => case.fmt(f),
             Case::Hosts(case) => case.fmt(f),
             Case::Moment(moment) => moment.fmt(f),
+            Case::Server(case) => case.fmt(f),
         }
     }
 }

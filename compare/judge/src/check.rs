@@ -7,6 +7,7 @@ pub mod entries;
 mod heads;
 mod hosts;
 pub mod moments;
+pub mod servers;
 pub mod slots;
 mod tokens;
 mod windows;
@@ -50,6 +51,15 @@ pub enum Class {
     PastEnd,
     DueEnd,
     LaterThan,
+    UpdateEnd,
+    AskOpen,
+    OtherLength,
+    ShortList,
+    StartTables,
+    StartLimit,
+    StartAddress,
+    StartEnd,
+    OtherTables,
 }
 
 /// What the Rust did with a call of such a class; `changed` is its window, buffer, byte or clock.
@@ -116,6 +126,7 @@ pub fn check(case: &Case) -> Report {
         Case::Slots(case) => slots::check(case),
         Case::Hosts(case) => hosts::check(case),
         Case::Moment(moment) => moments::check(moment),
+        Case::Server(case) => servers::check(case),
     }
 }
 

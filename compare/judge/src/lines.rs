@@ -30,6 +30,7 @@ pub fn line(case: &Case) -> Option<String> {
         Case::Challenge(case) => challenge(case),
         Case::Proof(case) => proof(case),
         Case::Entries(_) | Case::Slots(_) | Case::Hosts(_) | Case::Moment(_) => None,
+        Case::Server(_) => None,
     }?;
     (line.len() <= 16_000).then_some(line)
 }

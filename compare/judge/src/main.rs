@@ -15,6 +15,7 @@ mod options;
 mod random;
 mod rng;
 mod sample;
+mod servers;
 mod shrink;
 mod shrink_tokens;
 mod table;
@@ -90,13 +91,16 @@ fn cases(judge: &mut Judge, options: &Options) -> Result<String, String> {
             sample.next_part();
         }
         let runs = random::run(judge, &mut rng, options.cases)?;
-        Ok((runs, tables::run(judge, options.seed, options.cases)?))
+        let tables = tables::run(judge, options.seed, options.cases)?;
+        let servers = servers::run(judge, options.seed, options.cases)?;
+        Ok((runs, tables, servers))
     };
-    let (runs, tables) = run().map_err(|found| difference(&found))?;
+    let (runs, tables, servers) = run().map_err(|found| difference(&found))?;
     let alone = alone::run(&mut rng)? + tables::alone::run(options.seed)?;
     Ok(format!(
         "{} of packets, windows and tokens were drawn, with {runs} runs of arrivals through one window\n\
          {} of tables and times were drawn, with {} histories of one table of token entries\n\
+         {servers} of a whole server were drawn: set-up, update, limit, queries\n\
          {alone} runs of ours alone: answers without an ask or with another buffer, and more",
         options.cases, tables.cases, tables.histories
     ))

@@ -53,6 +53,10 @@ fn simpler(case: &Case) -> Vec<Case> {
         Case::Entries(_) | Case::Slots(_) | Case::Hosts(_) | Case::Moment(_) => {
             crate::tables::simpler(case)
         }
+        Case::Server(case) => {
+            let tries = crate::servers::simpler(case).into_iter();
+            tries.map(Case::Server).collect()
+        }
     }
 }
 

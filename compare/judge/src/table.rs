@@ -4,7 +4,6 @@ use std::collections::BTreeMap;
 
 use crate::case::{Call, Case};
 use crate::check::{Beyond, Did, Report, Verdict};
-use crate::tables::{Fill, Place, Sparse};
 use crate::wanted::wanted;
 use crate::words::{answer, name};
 
@@ -147,8 +146,8 @@ fn size(case: &Case) -> usize {
             1000 * case.out.len() + 100 * case.packet.bytes.len() + bits
         }
         Case::Decode(case) => 1000 * case.datagram.len() + case.window.as_deref().map_or(0, places),
-        Case::Entries(case) => told(&case.table),
-        Case::Slots(case) => told(&case.table),
+        Case::Entries(case) => case.table.size(),
+        Case::Slots(case) => case.table.size(),
         Case::Hosts(case) => case.list.len() + case.ours.len(),
         Case::Moment(moment) => {
             let words = moment.times().map(|time| time.words()).concat();
@@ -157,13 +156,9 @@ fn size(case: &Case) -> usize {
                 .map(|word| 64 - word.leading_zeros() as usize)
                 .sum()
         }
+        Case::Server(case) => case.size(),
         _ => 0,
     }
-}
-
-fn told<P: Place>(table: &Sparse<P>) -> usize {
-    let drawn = matches!(table.fill, Fill::Drawn(_));
-    10_000 * usize::from(drawn) + 10 * table.named.len() + table.places
 }
 
 fn places(window: &crate::case::Window) -> usize {

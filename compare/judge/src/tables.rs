@@ -13,16 +13,19 @@ mod sparse;
 mod time_edges;
 
 use std::fmt;
-use std::net::SocketAddr;
+use std::net::{IpAddr, SocketAddr};
 use std::time::Duration;
 
+pub use alone::malformed;
 pub use entries::{bytes as entry_bytes, write as write_entry, Entries, Entry, Mark, ENTRIES};
+pub use entries::{drawn_time, few_addresses};
 pub use hosts::{list as address_list, Hosts};
 pub use moments::{Moment, Told};
 pub use ours::tables::Address;
 pub use run::run;
-pub use shrink::simpler;
+pub use shrink::{fewer, simpler, simpler_addresses, simpler_times};
 pub use slots::{clients as slot_clients, laid_out as slot_words, Slot, Slots, Wanted};
+pub use slots::{few_ids, used_mark};
 pub use sparse::{Fill, Place, Sparse};
 
 use crate::text::hex;
@@ -105,6 +108,14 @@ pub fn six(bytes: [u8; 16], port: u16) -> Address {
 /// The Rust's; none where the address is malformed.
 pub fn socket(address: &Address) -> Option<SocketAddr> {
     oracle::tables::address(address.kind, &address.bytes, address.port)
+}
+
+/// Ours, of the Rust's.
+pub fn given(socket: SocketAddr) -> Address {
+    match socket.ip() {
+        IpAddr::V4(ip) => four(ip.octets(), socket.port()),
+        IpAddr::V6(ip) => six(ip.octets(), socket.port()),
+    }
 }
 
 /// As a table or a list of ours has it, laid out here by hand.

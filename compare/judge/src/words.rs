@@ -1,5 +1,7 @@
 //! The words in which the counts are printed.
 
+mod servers;
+
 use crate::case::Call;
 use crate::check::{entries, moments, slots, Beyond, Class, Did};
 
@@ -9,7 +11,8 @@ pub fn name(call: Call, kind: u8) -> &'static str {
         Call::Encode | Call::Decode => packet_name(kind),
         Call::Entry => entry_name(kind),
         Call::ByAddress | Call::ById | Call::Free | Call::Count => place_name(kind),
-        _ => moment_name(kind),
+        Call::Add | Call::Before | Call::Past | Call::Due | Call::Since => moment_name(kind),
+        _ => servers::name(call, kind),
     }
 }
 
@@ -64,15 +67,20 @@ pub fn answer(call: Call, did: Did) -> String {
         (Did::Broken, _) => "broken",
         (Did::Absent, _) => "absent",
         (Did::No, Call::ByAddress | Call::ById | Call::Free) => "none",
+        (Did::No, Call::ClientAddr | Call::UserData | Call::Heard) => "none",
         (Did::No, _) => "no",
         (Did::Done, Call::Encode | Call::Challenge | Call::Prefix) => "written",
         (Did::Done, Call::Window) => "accepted",
         (Did::Done, Call::Entry) => "allowed",
         (Did::Done, Call::ByAddress | Call::ById | Call::Free) => "found",
         (Did::Done, Call::Count) => "counted",
-        (Did::Done, Call::Add) => "moved",
-        (Did::Done, Call::Since) => "given",
+        (Did::Done, Call::Add | Call::Update) => "moved",
+        (Did::Done, Call::Since | Call::ClientAddr | Call::UserData | Call::Heard) => "given",
         (Did::Done, Call::Hosts | Call::Before | Call::Past | Call::Due) => "yes",
+        (Did::Done, Call::IsConnected) => "yes",
+        (Did::Done, Call::Limit | Call::SetUp) => "set",
+        (Did::Done, Call::Connected) => "counted",
+        (Did::Done, Call::ClientsId | Call::ClientsSlot | Call::Addresses) => "listed",
         (Did::Done, _) => "read",
     };
     word.into()
@@ -104,6 +112,17 @@ pub fn class_text(class: Class) -> &'static str {
         Class::PastEnd => "past, the sum passes the range (ours: exact)",
         Class::DueEnd => "due, the sum passes the range (ours: exact)",
         Class::LaterThan => "since a time later than now (ours: zero)",
+        Class::UpdateEnd => "update, past the clock's range (ours 20)",
+        Class::AskOpen => "update or limit while an ask is open (ours 16)",
+        Class::OtherLength => "a table or list of another length than set-up's (ours 23)",
+        Class::ShortList => "a list that is too short (ours 14)",
+        Class::StartTables => "set-up, tables that are no tables (ours 23)",
+        Class::StartLimit => "set-up, a limit over the slots (ours 23)",
+        Class::StartAddress => "set-up, a malformed address (ours 19)",
+        Class::StartEnd => "set-up, a clock past its range (ours 20)",
+        Class::OtherTables => {
+            "set-up, other numbers of places than the Rust's (ours: as the Rust with its own)"
+        }
     }
 }
 
@@ -113,6 +132,11 @@ pub fn beyond_text(beyond: &Beyond) -> String {
     let (changed, same) = match beyond.class {
         Class::LongRead | Class::HighTest | Class::LongNanos | Class::OddTimeout => return did,
         Class::PastEnd | Class::DueEnd | Class::LaterThan => return did,
+        Class::AskOpen | Class::OtherLength | Class::ShortList => return did,
+        Class::StartTables | Class::StartLimit | Class::StartAddress => return did,
+        Class::StartEnd | Class::OtherTables => return did,
+        Class::UpdateEnd if beyond.did == Did::Absent => return did,
+        Class::UpdateEnd => ("clock or pending changed", "clock and pending as they were"),
         Class::ShortBuffer => ("buffer changed", "buffer as it was"),
         Class::FewEntries => ("entries changed", "entries as they were"),
         Class::ClockEnd => ("clock changed", "clock as it was"),
@@ -127,12 +151,18 @@ fn did_text(beyond: &Beyond) -> String {
         (Did::Refused(_), Class::HighTest) => "received",
         (Did::Refused(number), _) => return format!("refused as {number}"),
         (Did::Panicked | Did::Broken, _) => "panicked",
+        (Did::Absent, Class::AskOpen) => "has no asks",
+        (Did::Absent, Class::OtherLength | Class::ShortList) => "is lent none",
+        (Did::Absent, Class::StartAddress) => "has no such address",
+        (Did::Absent, Class::StartTables | Class::StartLimit) => "has no such address or time",
         (Did::Absent, _) => "has no such time",
         (Did::No, _) => "no",
         (Did::Done, Class::HighTest) => "not received",
         (Did::Done, Class::HighAdvance | Class::OldAdvance) => "advanced",
         (Did::Done, Class::WideType) => "written",
         (Did::Done, Class::FewEntries | Class::LongNanos | Class::OddTimeout) => "yes",
+        (Did::Done, Class::StartTables | Class::StartLimit) => "set up, as many slots as the limit",
+        (Did::Done, Class::OtherTables) => "set up",
         (Did::Done, _) => "read",
     };
     word.into()

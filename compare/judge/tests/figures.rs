@@ -1,11 +1,13 @@
-//! Document 01's figures of packets, window and timeout ("Figures on both sides"), from the Rust and from
-//! ours.
+//! Document 01's figures of packets, window, timeout and expiry ("Figures on both sides"), from the Rust and
+//! from ours.
 
+use std::iter::empty;
 use std::time::Duration;
 
 use oracle::calls::{self as rust, Answer, Fault, Fields};
+use oracle::servers::{pending, server_with, Record};
 use oracle::tables::{update_client, Updated};
-use ours::{calls, tables, Packet};
+use ours::{calls, servers, tables, Packet};
 
 const KEY: [u8; 32] = [3; 32];
 
@@ -130,5 +132,29 @@ fn a_timeout() {
     for never in [0, -1] {
         let updated = update_client(Duration::MAX, Duration::ZERO, Duration::ZERO, never);
         assert_eq!(is(updated), Updated::KeptAlive);
+    }
+}
+
+/// The request's half of this figure comes with requests.
+#[test]
+fn a_pending_client_stays_in_the_second_of_its_expiry() {
+    let last = 999_999_999;
+    for (secs, nanos, stays) in [(100, 0, true), (100, last, true), (101, 0, false)] {
+        let waiting = Record {
+            client_id: 0,
+            addr: ([127, 0, 0, 1], 1).into(),
+            received: Duration::ZERO,
+            user_data: [0; 256],
+            expiry: 100,
+        };
+        let mut server = server_with(Duration::ZERO, 1, empty(), [waiting].into_iter());
+        server.update(Duration::new(secs, nanos));
+        assert_eq!(pending(&server).len(), usize::from(stays));
+        let (mut record, mut table) = ([0; 22], [0; tables::PLACE_WORDS]);
+        record[servers::PENDING] = 1;
+        (table[0], table[5 + 15]) = (1, 100);
+        let answer = servers::update(&mut record, &mut table, [secs, nanos.into()]);
+        assert_eq!(answer, [1, 0, 0, 0, 0, 0, 0, 0, 0]);
+        assert_eq!(table[0], u64::from(stays));
     }
 }

@@ -102,7 +102,8 @@ fn answer<T>(done: Option<T>) -> Answer<T> {
     }
 }
 
-pub(crate) fn caught<T>(work: impl FnOnce() -> T) -> Answer<T> {
+/// Where a panic is an answer.
+pub fn caught<T>(work: impl FnOnce() -> T) -> Answer<T> {
     answer(catch_unwind(AssertUnwindSafe(work)).ok())
 }
 

@@ -4,6 +4,7 @@
 
 pub mod calls;
 mod fields;
+pub mod servers;
 pub mod tables;
 
 /// The original's own types, for measurements without the plain interface in between.

@@ -1,9 +1,11 @@
-//! Our library behind safe functions. `calls` and `tables` have each call as it is; `packets` and `tokens`
-//! play the host as well: where a call ends in an ask, they do the cipher's work and hand the answer back.
+//! Our library behind safe functions. `calls`, `tables` and `servers` have each call as it is; `packets` and
+//! `tokens` play the host as well: where a call ends in an ask, they do the cipher's work and hand the
+//! answer back.
 
 pub mod calls;
 mod host;
 mod packets;
+pub mod servers;
 pub mod sys;
 pub mod tables;
 mod tokens;

@@ -1,5 +1,7 @@
 //! The library's calls as C sees them: a slice is a pointer and a length, an array a pointer.
 
+pub mod servers;
+
 extern "C" {
     pub fn pump_sequence_bytes_required(sequence: u64) -> usize;
     pub fn pump_encode_prefix(value: u8, sequence: u64) -> u8;

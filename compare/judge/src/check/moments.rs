@@ -57,7 +57,7 @@ pub fn check(moment: &Moment) -> Report {
 
 /// Where document 01 leaves the Rust, whose times have fewer nanoseconds than a second, whose timeouts
 /// are tested from 1 to 2^31-1, and whose sums and differences must not pass a `Duration`'s range.
-fn class(moment: &Moment) -> Option<Class> {
+pub fn class(moment: &Moment) -> Option<Class> {
     let past_the_end = Time::of_whole(moment.sum()).is_none();
     match moment {
         Moment::Past { timeout, .. } if !(1..=LARGEST).contains(timeout) => Some(Class::OddTimeout),
@@ -147,7 +147,7 @@ fn our_did(moment: &Moment, number: u64) -> Did {
 }
 
 /// As ours has it: a difference in whole seconds and the rest, and in as many seconds as a word holds.
-fn words(told: Told) -> [u64; 3] {
+pub fn words(told: Told) -> [u64; 3] {
     let [first, second] = UNWRITTEN;
     match told {
         Told::Clock(time) => [0, time.secs, time.nanos],

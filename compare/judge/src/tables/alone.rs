@@ -36,7 +36,7 @@ pub fn run(seed: u64) -> Result<u64, String> {
 }
 
 /// Of another kind, or of kind 4 with something in its last twelve bytes.
-fn malformed(rng: &mut Rng) -> Address {
+pub fn malformed(rng: &mut Rng) -> Address {
     let mut address = few_addresses(rng);
     if rng.one_in(2) {
         address.kind = rng.below(256) as u8;

@@ -124,7 +124,7 @@ fn hosts(case: &Hosts) -> Vec<Hosts> {
 }
 
 /// Without one of them, or with one that is simpler.
-fn fewer(addresses: &[Address]) -> Vec<Vec<Address>> {
+pub fn fewer(addresses: &[Address]) -> Vec<Vec<Address>> {
     let mut tries = Vec::new();
     for at in 0..addresses.len() {
         let mut less = addresses.to_vec();

@@ -3,6 +3,9 @@
 use std::collections::BTreeMap;
 use std::fmt;
 
+/// Drawn tables of so many places at most can be told place by place.
+const SHORT: usize = 16;
+
 /// A place of a table, used or not.
 pub trait Place: Copy + PartialEq + fmt::Display {
     /// Marked empty, and nothing but zeros.
@@ -59,6 +62,12 @@ impl<P: Place> Sparse<P> {
         (0..self.places).map(|at| self.at(at)).collect()
     }
 
+    /// Shorter to tell counts as less.
+    pub fn size(&self) -> usize {
+        let drawn = matches!(self.fill, Fill::Drawn(_));
+        10_000 * usize::from(drawn) + 10 * self.named.len() + self.places
+    }
+
     /// Changes all places alike, those of a drawn table excepted that are not named.
     pub fn change(&mut self, change: impl Fn(&mut P)) {
         if let Fill::Same(place) = &mut self.fill {
@@ -79,6 +88,14 @@ impl<P: Place> Sparse<P> {
         };
         for fill in self.fills() {
             with(&|less| less.fill = fill);
+        }
+        // The same, place by place, so that each can get simpler.
+        if self.places <= SHORT && matches!(self.fill, Fill::Drawn(_)) {
+            with(&|less| {
+                less.fill = Fill::Same(P::EMPTY);
+                less.named = self.all().into_iter().enumerate().collect();
+                less.named.retain(|_, place| *place != P::EMPTY);
+            });
         }
         let fewest = [self.named.len(), 16, 4, 1];
         for (run, at) in fewest.iter().flat_map(|run| {

@@ -1,10 +1,12 @@
 //! Every row of docs/DIFFERENCES.md, by its number: on both sides, or of ours alone where the Rust has no
-//! such case (18, 19, 28, 33, 35, 38, 39). Where the two builds of the Rust differ, a row says both, and
-//! `checked` tells which one this is.
+//! such case (18, 19, 28, 33, 35, 38, 39, 44 to 46, 48). Where the two builds of the Rust differ, a row says
+//! both, and `checked` tells which one this is.
 
 mod common;
 mod heads;
 mod packets;
+mod servers;
+mod set_up;
 mod shared;
 mod tables;
 mod times;

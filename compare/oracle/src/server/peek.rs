@@ -1,5 +1,5 @@
-//! What the server keeps to itself: its token entries, its slots, its clock, its list of hosts. All
-//! that is asked of it is asked of its own functions.
+//! What the server keeps to itself: its token entries, its slots, its clock, its list of hosts, its pending
+//! clients. All that is asked of it is asked of its own functions.
 
 use std::{net::SocketAddr, time::Duration};
 
@@ -11,11 +11,13 @@ use super::{
 mod clocks;
 mod entries;
 mod hosts;
+mod servers;
 mod slots;
 
 pub use clocks::{is_before, one_client, server_at};
 pub use entries::{Entries, Entry};
 pub use hosts::is_in_host_list;
+pub use servers::{kept, pending, server_with, Kept, Record};
 pub use slots::{is_pending, Client, Slots};
 
 const PROTOCOL: u64 = 7;
