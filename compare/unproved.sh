@@ -1,10 +1,8 @@
 #!/usr/bin/env bash
-# How source is compiled without its proof: the harness's own library, which has none, and source with a planted fault. For
-# compare/run and compare/faults/run, which source this.
+# How source with a planted fault is compiled, without its proof. For compare/faults/run, which sources this.
 
 kit=$(dirname "$(readlink -f "$(command -v rt)")")/..
 unproved=$kit/on/x86_64
-harness=$(cd "$(dirname "${BASH_SOURCE[0]}")" && pwd)/ours/server_calls/lib.rt
 
 # Whether the toolchain has a compiler for it.
 has_unproved() {
@@ -22,8 +20,13 @@ archive() { # FOLDER CRATES NAME ROOT DEP..
     "$unproved/bin/rattle-cases" --toolchain "$unproved/toolchain" --staticlib "$folder/lib$name.a" "$source" "${words[@]}"
 }
 
-# The harness's library, which calls the server's crates.
-server_calls_archive() { # FOLDER CRATES
-    archive "$1" "$2" server_calls "$harness" \
-        serialize prefix replay_protection bodies asks times addresses entries places records server upkeep queries
+# The three libraries of the comparison.
+archives_of() { # FOLDER CRATES
+    local folder=$1 crates=$2
+    archive "$folder" "$crates" calls "$crates/calls/src/lib.rt" \
+        serialize prefix replay_protection bodies asks encode decode &&
+        archive "$folder" "$crates" table_calls "$crates/table_calls/src/lib.rt" \
+            serialize times addresses replay_protection entries places &&
+        archive "$folder" "$crates" server_calls "$crates/server_calls/src/lib.rt" \
+            serialize prefix replay_protection bodies asks times addresses entries places records server upkeep queries
 }

@@ -1,5 +1,5 @@
-//! Links our two static libraries, `libcalls.a` and `libtable_calls.a`, and the harness's own,
-//! `libserver_calls.a`, from where `rt staticlib` writes the first two or from OURS_LIB.
+//! Links our three static libraries, `libcalls.a`, `libtable_calls.a` and `libserver_calls.a`, from where
+//! `rt staticlib` writes them or from OURS_LIB.
 
 use std::env;
 use std::path::PathBuf;

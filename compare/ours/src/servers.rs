@@ -1,6 +1,6 @@
 //! The server's upkeep and queries: one safe function for each call of `server_calls`, nothing added.
 //!
-//! SAFETY, for all of them: as in `calls`. `server_calls` itself is not proved; it hands on what it is lent.
+//! SAFETY, for all of them: as in `calls`.
 
 use crate::sys::servers as sys;
 

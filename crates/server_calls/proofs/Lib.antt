@@ -1,0 +1,3 @@
+pub mod Told
+pub mod Back
+pub mod Determined
