@@ -1,6 +1,6 @@
 -- The tests that calls share (document 01, "When the server says no": elsewhere 16 comes first, and 17 before 18; 23 follows 16 or 17). Each
 -- gives its number, or 0.
-use Prim.Native.Nat.{ℕ, _+_, _*_, _-_, _/_, _%_, _^_}
+use Prim.Native.Nat.{ℕ, _+_, _*_, _-_, _^_}
 use mathlib.Core.Bool.{Bool, false, not, _||_}
 use lib.Dec.{eqb, ltb, leb}
 use Rattle.serialize.specs.Choice.{pick}
@@ -12,8 +12,10 @@ use Rattle.server.specs.declared.Stage.the-variants.{Idle, Packet, Token
 use Rattle.server.specs.declared.Goal.{Goal}
 use Rattle.server.specs.declared.Goal.the-variants.{Denied, ChallengeToken, ChallengePacket, Connecting, Sending, Ending}
 
--- ---- 23: a length unlike set-up's
+-- ---- 23: a length unlike set-up's (document 01, the table: "later, a length unlike set-up's"). A record of no places, or of more than
+-- set-up takes, is none that set-up made, and no length is right for it.
 
+-- a table of n places, no more than most
 unfoldable pub lengthRefusal : ℕ → ℕ → ℕ → ℕ
 lengthRefusal len n most = pick (eqb n 0) 23 (pick (ltb most n) 23 (pick (eqb len (n * placeWords)) 0 23))
 
@@ -27,6 +29,7 @@ unfoldable pub entriesRefusal : SetUp → ℕ → ℕ
 entriesRefusal set entries =
     pick (eqb (set .entries) 0) 23 (pick (ltb 2048 (set .entries)) 23 (pick (eqb entries (set .entries * 48)) 0 23))
 
+-- the public addresses, three words each
 unfoldable pub listRefusal : SetUp → ℕ → ℕ
 listRefusal set addresses = pick (eqb addresses (set .addresses * 3)) 0 23
 
@@ -34,6 +37,7 @@ listRefusal set addresses = pick (eqb addresses (set .addresses * 3)) 0 23
 unfoldable pub before : ℕ → ℕ → ℕ
 before a b = pick (eqb a 0) b a
 
+-- the two tables of connections; then the entries and the public addresses too
 abbrev pub bothRefusal : SetUp → ℕ → ℕ → ℕ
 bothRefusal set slots pending = before (slotsRefusal set slots) (pendingRefusal set pending)
 
@@ -50,13 +54,14 @@ kindOf (Token addr expiry low high) = 2
 kindOf (Challenge place start) = 1
 kindOf (Seal goal sequence end) = 3
 
--- ---- 16, 23
+-- ---- 16, then 23 by the tables that the call is lent
 
 unfoldable pub callRefusal : OpenAsk → ℕ → ℕ
 callRefusal ask tables = pick (eqb (kindOf (ask .stage)) 0) tables 16
 
--- ---- 17, 23, 18
+-- ---- 17, then 23 by the tables, then 18 (document 01: an answer lends the same buffers, another length is 18; wrong kind or field range)
 
+-- how many places the table has in which a packet's sender stands
 unfoldable pub roomOf : Bool → ℕ → ℕ → ℕ
 roomOf connected slots pending = pick connected slots pending
 
@@ -94,6 +99,7 @@ unfit ask kind set datagram out =
     not (eqb (kindOf (ask .stage)) kind)
     || (not (eqb datagram (ask .datagram)) || (not (eqb out (ask .out)) || misfits (ask .stage) (set .slots) (set .pending) datagram out))
 
+-- 0 where the answer is taken
 unfoldable pub answerRefusal : OpenAsk → ℕ → ℕ → SetUp → ℕ → ℕ → ℕ
 answerRefusal ask tables kind set datagram out =
     pick (eqb (kindOf (ask .stage)) 0) 17 (pick (eqb tables 0) (pick (unfit ask kind set datagram out) 18 0) tables)
