@@ -88,7 +88,7 @@ module _ (t : List ℕ) (at : ℕ) (win : Window) (fits : at + 1 + length (win .
   put-other b n h d = part-splice-other t at (win .most ∷ win .ring) b n (omega arith) h (λ o q i j. d o q i (omega arith))
 
 -- an arrival keeps the number of places
-length-arrive : (w : ℕ) (win : Window) (s : ℕ) → length (arrive w win s .ring) ≡ length (win .ring)
+pub length-arrive : (w : ℕ) (win : Window) (s : ℕ) → length (arrive w win s .ring) ≡ length (win .ring)
 unfolding arrive advance pick
 length-arrive w win s = by-test (accepts w win s) (λ e. simp (e, length-set)) (λ e. simp e)
 

@@ -1,0 +1,4 @@
+pub mod Tests
+pub mod Sending
+pub mod Ways
+pub mod Determined

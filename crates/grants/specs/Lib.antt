@@ -1,0 +1,2 @@
+pub mod Tokens
+pub mod Grants

@@ -1,0 +1,5 @@
+pub mod Answers
+pub mod Arrivals
+pub mod Seals
+pub mod Opens
+pub mod Grants
