@@ -1,26 +1,22 @@
 -- A datagram changes nothing that is seen: it sets a received time at most. If it ends in an ask for a packet, that is for a record in use
 -- whose window does not refuse it.
-use mathlib.Core.Path.{_≡_, refl, sym, ap, _∙_}
-use mathlib.Core.Bool.{Bool, true, false}
-use Prim.Native.Nat.{ℕ, _≤_, _<_}
+use mathlib.Core.Path.{_≡_, refl, ap, _∙_}
+use mathlib.Core.Bool.{true, false}
+use Prim.Native.Nat.{ℕ, _<_}
 use native.Mathlib.Omega.{arith}
 use mathlib.Core.List.{List}
 use lib.ListN.{length}
-use lib.Dec.{eqb, ltb}
+use lib.Dec.{eqb}
 use borrow.Author.Tests.{eqb-true}
-use Rattle.serialize.specs.declared.Found.{Found}
-use Rattle.serialize.specs.declared.Found.the-variants.{At, Nothing}
+use Rattle.serialize.specs.declared.Found.the-variants.{At}
 use Rattle.serialize.specs.Choice.{pick}
 use Rattle.replay_protection.specs.Replay.{refusal}
-use Rattle.replay_protection.specs.Stored.{windowAt}
 use Rattle.replay_protection.specs.Ours.{width}
 use Rattle.bodies.specs.declared.PacketType.{PacketType}
-use Rattle.bodies.specs.Kinds.{windowed, isRequest}
 use Rattle.addresses.specs.declared.Address.{Address}
 use Rattle.addresses.specs.Addresses.{wordsOf}
-use Rattle.places.specs.Layout.{Shaped, usedAt, windowPlace}
+use Rattle.places.specs.Layout.{Shaped, usedAt}
 use Rattle.places.specs.Columns as columns
-use Rattle.places.specs.Columns.{fieldOf}
 use Rattle.places.specs.Keys.{LowestOf, Keyed}
 use Rattle.places.specs.Finds.{findAddress}
 use Rattle.places.proofs.Searches.{address-found}
@@ -30,19 +26,19 @@ use Rattle.decode.specs.declared.Start.{Start}
 use Rattle.decode.specs.declared.Start.the-variants as starting
 use Rattle.decode.specs.Decodes.{typeAt, startAt}
 use Rattle.server.specs.declared.Stage.{Stage}
-use Rattle.server.specs.declared.Stage.the-variants.{Idle, Packet, Token}
+use Rattle.server.specs.declared.Stage.the-variants.{Idle}
 use Rattle.server.specs.State.{withAsk}
 use Rattle.server.specs.Ready.{callRefusal, bothRefusal}
 use Rattle.server.proofs.Inversions.{neither, call-free, both-shaped}
 use Rattle.turns.specs.declared.Turn.{Turn}
-use Rattle.turns.specs.Outcomes.{State, state, Outcome, came, leaves, refuses, refused, asking}
+use Rattle.turns.specs.Outcomes.{State, state, Outcome, came, leaves, refuses, refused}
 use Rattle.arrivals.specs.declared.Sender.{Sender}
 use Rattle.arrivals.specs.declared.Sender.the-variants.{Connected, Pending, Unknown}
-use Rattle.arrivals.specs.Requests.{requestRefusal, tokenAsked, requestRead}
+use Rattle.arrivals.specs.Requests.{tokenAsked, requestRead}
 use Rattle.arrivals.specs.Arrivals.{lentRefusal, arrivalRefusal, windowRefusal, openAsked, sealedAt, byStart, sealedFrom, requestFrom, senderIn, kindArrives, byKind, arrives}
 use Rattle.arrivals.proofs.Ways as ways
 use Rattle.views.specs.Views as views
-use Rattle.views.specs.Views.{Place, Slot, Pend, View, here, viewAt, seen, inside}
+use Rattle.views.specs.Views.{Place, Slot, Pend, View, here, seen, inside}
 use Rattle.views.specs.Effects.{None, AskFits, PacketFits, placeOf, Good, Does}
 use Rattle.views.proofs.Stores.{view-inside, Unseen, unseen-refl, time-unseen}
 use Rattle.effects.proofs.Seen.{pick-all, Settled, seen-slot, seen-pend, inside-same, all-same, still, unchanged}

@@ -1,44 +1,39 @@
 -- An answer about a private token makes no record yet: it drops a pending place at most. If it ends in an ask to seal a challenge, no slot has
 -- the sender's address.
 use mathlib.Core.Path.{_≡_, refl, sym, ap, _∙_}
-use mathlib.Core.Bool.{Bool, true, false, _&&_, _||_, not}
-use Prim.Native.Nat.{ℕ, _+_, _-_, _^_, _≤_, _<_}
+use mathlib.Core.Bool.{Bool, true, false}
+use Prim.Native.Nat.{ℕ, _-_, _<_}
 use native.Mathlib.Omega.{arith}
 use mathlib.Core.List.{List}
 use lib.ListN.{length}
-use lib.Dec.{eqb, ltb, leb}
+use lib.Dec.{eqb, ltb}
 use borrow.Author.Tests.{eqb-true, ltb-true}
 use Rattle.serialize.specs.declared.Found.{Found}
 use Rattle.serialize.specs.declared.Found.the-variants.{At, Nothing}
 use Rattle.serialize.specs.Choice.{pick}
 use Rattle.addresses.specs.declared.Address.{Address}
-use Rattle.addresses.specs.Addresses.{wordsOf, isFound}
+use Rattle.addresses.specs.Addresses.{isFound}
 use Rattle.places.specs.Layout.{Shaped}
-use Rattle.places.specs.Columns as columns
-use Rattle.places.specs.Keys.{Keyed, LowestOf, NoneOf}
 use Rattle.places.specs.Finds.{findAddress, findId}
 use Rattle.places.proofs.Searches.{address-found, address-none, true-false}
 use Rattle.records.specs.Records.{emptied}
 use Rattle.records.proofs.Kept.{emptied-elsewhere}
-use Rattle.entries.specs.Finds as entry
 use Rattle.server.specs.declared.NetcodeServer.{NetcodeServer}
 use Rattle.server.specs.declared.Stage.{Stage}
 use Rattle.server.specs.declared.Stage.the-variants as stage
-use Rattle.server.specs.declared.Goal.the-variants as goal
 use Rattle.server.specs.declared.Answer.the-variants as answer
-use Rattle.server.specs.State.{withAsk, withCounters, idle}
-use Rattle.server.specs.Ready.{kindOf, allRefusal, answerRefusal, before}
-use Rattle.server.proofs.Inversions.{neither, all-shaped, Answerable, answer-fits}
-use Rattle.turns.specs.declared.Turn.{Turn}
-use Rattle.turns.specs.Outcomes.{State, state, Outcome, came, leaves, refuses, closed, openRefusal}
+use Rattle.server.specs.State.{withAsk, withCounters}
+use Rattle.server.specs.Ready.{kindOf, allRefusal, answerRefusal}
+use Rattle.server.proofs.Inversions.{neither, all-shaped, answer-fits}
+use Rattle.turns.specs.Outcomes.{State, state, leaves, refuses, closed, openRefusal}
 use Rattle.turns.specs.Packets.{Spoken, Prepared, holding, denied}
 use Rattle.grants.specs.declared.PrivateConnectToken.{PrivateConnectToken}
-use Rattle.grants.specs.Tokens.{Met, met, beside, challengeSent, challenged, dropped, welcomed, isConnected, noPlace, Admitted, admitted, byEntry, considered}
-use Rattle.grants.specs.Grants.{Granted, granted, grantRefusal, fieldsRefusal, foreign, fromToken, grantedAt, grants}
+use Rattle.grants.specs.Tokens.{Met, met, challengeSent, challenged, dropped, welcomed, isConnected, noPlace, Admitted, admitted, byEntry, considered}
+use Rattle.grants.specs.Grants.{Granted, granted, grantRefusal, fieldsRefusal, foreign, grantedAt, grants}
 use Rattle.views.specs.Views as views
-use Rattle.views.specs.Views.{Place, Slot, Pend, View, viewAt, seen, inside}
-use Rattle.views.specs.Effects.{None, Stays, as-is, ended, kept, AskFits, Unconnected, Good, Does}
-use Rattle.views.proofs.Stores.{view-inside, view-within, view-else, Unseen, unseen-refl, emptied-gone}
+use Rattle.views.specs.Views.{Slot, Pend, View, viewAt, seen, inside}
+use Rattle.views.specs.Effects.{None, as-is, ended, kept, AskFits, Unconnected, Good, Does}
+use Rattle.views.proofs.Stores.{view-inside, view-within, view-else, unseen-refl, emptied-gone}
 use Rattle.views.proofs.Spread.{by-place}
 use Rattle.effects.specs.Calls.{Grants, replied}
 use Rattle.effects.proofs.Seen.{pick-all, both-false, Settled, seen-slot, inside-same, all-same, pend-changes, still, unchanged}

@@ -1,13 +1,12 @@
 -- From set-up on, whatever is called, used addresses are distinct: every call has an effect that the law allows, and the law keeps them apart.
 use mathlib.Core.Path.{_≡_, refl, sym, ap, _∙_}
-use mathlib.Core.Bool.{Bool, true, false}
-use Prim.Native.Nat.{ℕ, zero, suc, _+_, _≤_, _<_, min}
+use mathlib.Core.Bool.{true}
+use Prim.Native.Nat.{ℕ, zero, suc, _<_, min}
 use native.Mathlib.Omega.{arith}
 use mathlib.Core.List.{List, [], _∷_}
 use lib.ListN.{length, getD}
 use lib.Dec.{eqb, ltb}
 use borrow.Author.Tests.{eqb-true, eqb-false, ltb-true}
-use Rattle.serialize.specs.Choice.{pick}
 use Rattle.serialize.proofs.Choice.{by-test}
 use Rattle.times.specs.declared.Time.{Time}
 use Rattle.times.specs.declared.Added.{Added}
@@ -17,13 +16,11 @@ use Rattle.places.specs.Layout.{Shaped, usedAt}
 use Rattle.places.specs.Columns as columns
 use Rattle.places.specs.Columns.{Field, Within, Marks, fieldOf}
 use Rattle.places.specs.Keys.{Distinct}
-use Rattle.places.specs.Finds.{usedCount, countOne}
+use Rattle.places.specs.Finds.{usedCount}
 use Rattle.places.proofs.Ways.{empty-unused}
 use Rattle.places.proofs.Counted.{used-counts}
 use Rattle.places.proofs.Searches.{true-false}
-use Rattle.server.specs.declared.NetcodeServer.{NetcodeServer}
 use Rattle.server.specs.declared.Step.{Step}
-use Rattle.server.specs.declared.Stage.{Stage}
 use Rattle.server.specs.declared.Stage.the-variants as stage
 use Rattle.server.specs.State.{withClock, withLimit}
 use Rattle.server.specs.Ready.{callRefusal, pendingRefusal}
@@ -35,9 +32,9 @@ use Rattle.upkeep.specs.Limits.{limited}
 use Rattle.upkeep.specs.Fresh.{Fresh}
 use Rattle.upkeep.proofs.Meaning.{dropped-used, dropped-fields}
 use Rattle.views.specs.Views as views
-use Rattle.views.specs.Views.{Place, Slot, Pend, View, viewAt, seen, inside}
-use Rattle.views.specs.Effects.{None, Stays, as-is, ended, kept, AskFits, Apart, Good, Does}
-use Rattle.views.proofs.Stores.{view-inside, view-outside, view-within, view-parts, window-alike, Unseen, unseen-refl}
+use Rattle.views.specs.Views.{Place, Slot, Pend, View, viewAt, seen}
+use Rattle.views.specs.Effects.{None, Stays, as-is, ended, kept, Good, Does}
+use Rattle.views.proofs.Stores.{view-inside, view-outside, view-within, view-parts, window-alike, unseen-refl}
 use Rattle.views.proofs.Spread.{does-good, slot-not-pend}
 use Rattle.effects.specs.Calls.{Reply, Opens, Grants, Seals, Call, Arrives, Replies, Updates, Limits, replied, next, after, toldBy, told}
 use Rattle.effects.proofs.Seen.{pick-all, Settled, seen-slot, seen-pend, inside-same, slots-same, all-same, still, unchanged}

@@ -1,19 +1,17 @@
 -- A yes to a packet moves the window of the record that it is for and no other; a yes to a challenge empties the pending place, whose record
 -- stands until the keep-alive is sealed; a no leaves every place as it was.
 use mathlib.Core.Path.{_≡_, refl, sym, ap, _∙_}
-use mathlib.Core.Bool.{Bool, true, false, _&&_, _||_, not}
-use Prim.Native.Nat.{ℕ, _+_, _-_, _^_, _≤_, _<_}
+use mathlib.Core.Bool.{Bool, true, false}
+use Prim.Native.Nat.{ℕ, _+_, _-_, _<_}
 use native.Mathlib.Omega.{arith}
 use mathlib.Core.List.{List}
-use lib.ListN.{length, set, getD}
+use lib.ListN.{length, set}
 use lib.Dec.{eqb, ltb, leb}
-use borrow.Author.Tests.{eqb-true, eqb-false, ltb-false, leb-false, lt-ltb}
+use borrow.Author.Tests.{eqb-true, eqb-false, leb-false, lt-ltb}
 use Rattle.serialize.specs.declared.Found.{Found}
 use Rattle.serialize.specs.declared.Found.the-variants.{At, Nothing}
 use Rattle.serialize.specs.Choice.{pick}
 use Rattle.serialize.proofs.Choice.{by-test}
-use Rattle.replay_protection.specs.Replay.{refusal}
-use Rattle.replay_protection.specs.Ours.{width}
 use Rattle.bodies.specs.declared.PacketType.{PacketType}
 use Rattle.bodies.specs.declared.Packet.{Packet}
 use Rattle.bodies.specs.declared.Packet.the-variants as packet
@@ -23,11 +21,9 @@ use Rattle.bodies.specs.declared.challenge.ChallengeToken.{ChallengeToken}
 use Rattle.bodies.specs.Kinds.{windowed}
 use Rattle.bodies.specs.Tokens.{tokenAt}
 use Rattle.places.specs.Layout.{Shaped}
-use Rattle.places.specs.Columns.{Elsewhere}
-use Rattle.places.specs.Keys.{LowestOf}
 use Rattle.places.specs.Finds.{findId, findFree}
 use Rattle.places.proofs.Frame.{shaped-kept}
-use Rattle.places.proofs.Searches.{free-found, true-false}
+use Rattle.places.proofs.Searches.{free-found}
 use Rattle.records.specs.Records.{emptied}
 use Rattle.records.proofs.Kept.{emptied-elsewhere}
 use Rattle.server.specs.declared.NetcodeServer.{NetcodeServer}
@@ -37,17 +33,16 @@ use Rattle.server.specs.declared.Goal.the-variants as goal
 use Rattle.server.specs.declared.Answer.the-variants as answer
 use Rattle.server.specs.State.{withAsk, idle}
 use Rattle.server.specs.Ready.{kindOf, roomOf, misplaced, misfits, bothRefusal, answerRefusal}
-use Rattle.server.proofs.Inversions.{neither, both-shaped, Answerable, answer-fits}
-use Rattle.turns.specs.declared.Turn.{Turn}
-use Rattle.turns.specs.Outcomes.{State, state, Outcome, came, leaves, refuses, closed, Half, half, Written, written, openRefusal}
+use Rattle.server.proofs.Inversions.{neither, both-shaped, answer-fits}
+use Rattle.turns.specs.Outcomes.{State, state, came, leaves, refuses, closed, Half, written, openRefusal, fromSlot, fromPending}
 use Rattle.turns.specs.Packets.{Spoken, Prepared, holding, denied}
-use Rattle.opens.specs.Heard.{accepted, touched, confirmed, slotSays, slotBody, challengeAsked, pendingSays, pendingBody, bodyIn, slotHeard, pendingHeard}
+use Rattle.opens.specs.Heard.{accepted, touched, slotSays, slotBody, challengeAsked, pendingSays, pendingBody, bodyIn, slotHeard, pendingHeard}
 use Rattle.opens.specs.Responses.{connecting, byFree, byId, responded}
-use Rattle.opens.specs.Opens.{fromSlot, fromPending, packetOpened, fromResponse, opened, openAnswerRefusal, opens}
+use Rattle.opens.specs.Opens.{packetOpened, fromResponse, opened, openAnswerRefusal, opens}
 use Rattle.views.specs.Views as views
 use Rattle.views.specs.Views.{Place, Slot, Pend, View, standing, gone, advanced, viewAt, seen, inside}
-use Rattle.views.specs.Effects.{Told, None, Took, Stays, as-is, ended, Others, Effect, kept, took, AskFits, PacketFits, ConnectFits, placeOf, Good, Does}
-use Rattle.views.proofs.Stores.{view-inside, view-else, view-within, Unseen, unseen-refl, unseen-trans, store-unseen, time-unseen, arrived, arrived-else, arrived-here, emptied-here, emptied-gone, free-view}
+use Rattle.views.specs.Effects.{None, Took, Stays, as-is, ended, Others, Effect, kept, took, AskFits, PacketFits, ConnectFits, placeOf, Good, Does}
+use Rattle.views.proofs.Stores.{view-else, Unseen, unseen-refl, store-unseen, time-unseen, arrived-else, arrived-here, emptied-here, emptied-gone, free-view}
 use Rattle.views.proofs.Spread.{by-place}
 use Rattle.effects.specs.Calls.{Opens, replied, toldAt, toldBy}
 use Rattle.effects.proofs.Seen.{pick-all, both-false, Settled, seen-slot, seen-pend, inside-same, slots-same, all-same, slot-changes, pend-changes, asks-at, still, unchanged}

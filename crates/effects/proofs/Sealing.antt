@@ -1,12 +1,12 @@
 -- A sealed challenge makes the sender's record at a free pending place, or moves the two times of the one that it has; a sealed first
 -- keep-alive moves the record that was on its way to its slot; no other seal changes what is seen, and a no ends the record on its way.
 use mathlib.Core.Path.{_≡_, refl, sym, ap, _∙_}
-use mathlib.Core.Bool.{Bool, true, false, _||_}
-use Prim.Native.Nat.{ℕ, _+_, _-_, _^_, _≤_, _<_}
+use mathlib.Core.Bool.{Bool, true, false}
+use Prim.Native.Nat.{ℕ, _+_, _-_, _<_}
 use native.Mathlib.Omega.{arith}
 use mathlib.Core.List.{List}
 use lib.ListN.{length, set, length-replicate}
-use lib.Dec.{eqb, ltb, leb}
+use lib.Dec.{eqb, leb}
 use borrow.Author.Tests.{eqb-true, eqb-false, ltb-true, leb-false, lt-ltb, eq-eqb, ne-eqb}
 use Rattle.serialize.specs.declared.Found.{Found}
 use Rattle.serialize.specs.declared.Found.the-variants.{At, Nothing}
@@ -20,11 +20,9 @@ use Rattle.addresses.specs.Addresses.{wordsOf}
 use Rattle.replay_protection.specs.Replay.{fresh, EMPTY}
 use Rattle.replay_protection.specs.Ours.{width}
 use Rattle.places.specs.Layout.{Shaped}
-use Rattle.places.specs.Columns as columns
-use Rattle.places.specs.Keys.{Keyed, LowestOf, NoneOf}
 use Rattle.places.specs.Finds.{findAddress, findFree}
 use Rattle.places.proofs.Frame.{shaped-kept}
-use Rattle.places.proofs.Searches.{address-found, address-none, free-found, true-false}
+use Rattle.places.proofs.Searches.{address-found, address-none, free-found}
 use Rattle.records.specs.Records.{emptied, filled, moved, putTime}
 use Rattle.records.proofs.Kept.{emptied-elsewhere}
 use Rattle.records.proofs.ReadBack.{moved-elsewhere}
@@ -38,19 +36,17 @@ use Rattle.server.specs.declared.Goal.the-variants as goal
 use Rattle.server.specs.State.{withAsk, withCounters}
 use Rattle.server.specs.Held.{heldUserData}
 use Rattle.server.specs.Ready.{kindOf, goalMisfits, sealMisfits, misfits, bothRefusal}
-use Rattle.server.proofs.Inversions.{both-shaped, Answerable, answer-fits}
-use Rattle.turns.specs.declared.Turn.{Turn}
-use Rattle.turns.specs.Outcomes.{State, state, Outcome, came, leaves, refuses, closed, spent}
-use Rattle.seals.specs.Waits.{newcomer, byPlace, bySame, waits, sentUnder, connected}
-use Rattle.seals.specs.Seals.{unsealed, packetAsked, connects, sends, fromSlot, sealed, byStage, sealRefusal, seals}
+use Rattle.server.proofs.Inversions.{both-shaped, answer-fits}
+use Rattle.turns.specs.Outcomes.{State, state, came, leaves, refuses, closed, spent, fromSlot}
+use Rattle.seals.specs.Waits.{newcomer, byPlace, bySame, sentUnder, connected}
+use Rattle.seals.specs.Seals.{unsealed, packetAsked, connects, sends, sealed, byStage, sealRefusal, seals}
 use Rattle.views.specs.Views as views
 use Rattle.views.specs.Views.{Place, Slot, Pend, View, standing, viewAt, seen, inside}
 use Rattle.views.specs.Effects as effects
 use Rattle.views.specs.Effects.{None, Stays, as-is, ended, kept, made, AskFits, GoalFits, Unconnected, ConnectFits, Good, Does}
-use Rattle.views.proofs.Stores.{words-32, view-inside, view-within, view-else, Unseen, unseen-refl, unseen-trans, store-unseen, put-unseen, time-unseen, emptied-here, emptied-gone, free-view, filled-here, filled-else, moved-here}
-use Rattle.views.proofs.Spread.{by-place, slot-not-pend}
+use Rattle.views.proofs.Stores.{words-32, view-inside, view-within, view-else, Unseen, unseen-refl, unseen-trans, store-unseen, put-unseen, time-unseen, emptied-gone, free-view, filled-here, filled-else, moved-here}
 use Rattle.effects.specs.Calls.{Seals, replied}
-use Rattle.effects.proofs.Seen.{pick-all, both-false, Settled, seen-slot, seen-pend, inside-same, slots-same, all-same, pend-changes, asks-at, still, unchanged}
+use Rattle.effects.proofs.Seen.{both-false, Settled, seen-slot, seen-pend, inside-same, slots-same, all-same, pend-changes, asks-at, still, unchanged}
 
 -- the fresh window has as many places as a table's
 fresh-full : length (fresh width .ring) ≡ width

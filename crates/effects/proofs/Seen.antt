@@ -1,22 +1,16 @@
 -- What is seen of a state, from its tables: with no record on its way to a slot, a place is seen as its table has it, so a call whose
 -- writes no view shows keeps what is seen, and one that changes a single place changes what is seen there alone.
-use mathlib.Core.Path.{_≡_, refl, sym, ap, ap₂, _∙_}
+use mathlib.Core.Path.{_≡_, refl, sym, ap, _∙_}
 use mathlib.Core.Bool.{Bool, true, false, _||_}
-use Prim.Native.Nat.{ℕ, _≤_, _<_}
-use native.Mathlib.Omega.{arith}
-use mathlib.Core.List.{List}
-use lib.ListN.{length}
-use lib.Dec.{eqb, ltb}
-use borrow.Author.Tests.{lt-ltb, eqb-true, eqb-false}
+use Prim.Native.Nat.{ℕ}
+use lib.Dec.{ltb}
 use Rattle.serialize.specs.Choice.{pick}
-use Rattle.serialize.proofs.Choice.{by-test}
-use Rattle.places.specs.Layout.{Shaped}
 use Rattle.places.proofs.Searches.{true-false}
 use Rattle.server.specs.declared.SetUp.{SetUp}
 use Rattle.server.specs.declared.Stage.{Stage}
-use Rattle.turns.specs.Outcomes.{State, state}
-use Rattle.views.specs.Views.{Place, Slot, Pend, View, gone, leaves, viewAt, seen, inside}
-use Rattle.views.specs.Effects.{Told, None, Took, Stays, as-is, ended, Others, Effect, kept, took, AskFits, Does}
+use Rattle.turns.specs.Outcomes.{State}
+use Rattle.views.specs.Views.{Place, Slot, Pend, View, leaves, viewAt, seen, inside}
+use Rattle.views.specs.Effects.{None, Stays, as-is, ended, Others, Effect, kept, AskFits, Does}
 use Rattle.views.proofs.Stores.{Unseen}
 
 -- both ways of a choice

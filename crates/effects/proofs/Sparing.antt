@@ -1,7 +1,7 @@
 -- No datagram alters a slot of another address: every write of a call is at the place that its ask is about, that place has the sender's address
 -- or was free, and the ask stays about it through the exchange.
 use mathlib.Core.Path.{_≡_, refl, sym, ap, _∙_}
-use mathlib.Core.Bool.{Bool, true, false, _||_}
+use mathlib.Core.Bool.{Bool, true, false}
 use Prim.Native.Nat.{ℕ, _+_, _-_, _≤_, _<_}
 use native.Mathlib.Omega.{arith}
 use mathlib.Core.List.{List, [], _∷_}
@@ -22,17 +22,15 @@ use Rattle.bodies.specs.declared.Packet.the-variants as packet
 use Rattle.bodies.specs.declared.Body.{Body}
 use Rattle.bodies.specs.declared.Body.the-variants.{Whole, Short}
 use Rattle.bodies.specs.declared.challenge.ChallengeToken.{ChallengeToken}
-use Rattle.bodies.specs.Kinds.{windowed, isRequest}
 use Rattle.bodies.specs.Tokens.{tokenAt}
 use Rattle.places.specs.Layout.{Shaped, usedAt, bodyAt}
 use Rattle.places.specs.Columns as columns
-use Rattle.places.specs.Columns.{Field, Within, Bodies, field, fieldOf, Elsewhere}
-use Rattle.places.specs.Keys.{LowestOf}
+use Rattle.places.specs.Columns.{fieldOf, Elsewhere}
 use Rattle.places.specs.Finds.{findAddress, findId, findFree}
 use Rattle.places.proofs.Frame.{shaped-kept, elsewhere-refl, elsewhere-trans, elsewhere-put, elsewhere-store}
 use Rattle.places.proofs.Ways.{empty-unused}
 use Rattle.places.proofs.Searches.{address-found, free-found, true-false}
-use Rattle.records.specs.Records.{emptied, moved, putTime}
+use Rattle.records.specs.Records.{moved, putTime}
 use Rattle.records.proofs.Kept.{emptied-elsewhere, time-elsewhere}
 use Rattle.records.proofs.ReadBack.{moved-elsewhere}
 use Rattle.decode.specs.declared.Kind.{Kind}
@@ -47,11 +45,11 @@ use Rattle.server.specs.declared.Goal.{Goal}
 use Rattle.server.specs.declared.Goal.the-variants as goal
 use Rattle.server.specs.State.{withAsk, withCounters}
 use Rattle.server.specs.Held.{heldUserData}
-use Rattle.server.specs.Ready.{kindOf, roomOf, misplaced, misfits, goalMisfits, sealMisfits, bothRefusal, allRefusal, callRefusal, answerRefusal, before}
-use Rattle.server.proofs.Inversions.{neither, call-free, open-refused, both-shaped, all-shaped, Answerable, answer-fits}
+use Rattle.server.specs.Ready.{roomOf, misplaced, misfits, goalMisfits, sealMisfits, bothRefusal, allRefusal, callRefusal, answerRefusal, before}
+use Rattle.server.proofs.Inversions.{neither, call-free, open-refused, both-shaped, all-shaped, answer-fits}
 use Rattle.turns.specs.declared.Turn.{Turn}
-use Rattle.turns.specs.Outcomes.{State, state, Outcome, came, leaves, refuses, refused, closed, Half, half, Written, openRefusal}
-use Rattle.turns.specs.Packets.{Spoken, Prepared, holding, denied}
+use Rattle.turns.specs.Outcomes.{State, state, Outcome, refuses, Written, openRefusal}
+use Rattle.turns.specs.Packets.{Spoken, Prepared, denied}
 use Rattle.arrivals.specs.declared.Sender.{Sender}
 use Rattle.arrivals.specs.declared.Sender.the-variants.{Connected, Pending, Unknown}
 use Rattle.arrivals.specs.Requests.{tokenAsked, requestRead}
@@ -62,7 +60,7 @@ use Rattle.opens.specs.Responses.{connecting, byFree, byId, responded}
 use Rattle.opens.specs.Opens.{packetOpened, opened, openAnswerRefusal, opens}
 use Rattle.grants.specs.declared.PrivateConnectToken.{PrivateConnectToken}
 use Rattle.grants.specs.Tokens.{Met, challengeSent, challenged, welcomed, Admitted, byEntry, considered}
-use Rattle.grants.specs.Grants.{Granted, grantRefusal, fieldsRefusal, foreign, grantedAt, grants}
+use Rattle.grants.specs.Grants.{Granted, grantRefusal, fieldsRefusal, grantedAt, grants}
 use Rattle.seals.specs.Waits.{sentUnder, connected}
 use Rattle.seals.specs.Seals.{unsealed, packetAsked, connects, sends, sealed, byStage, sealRefusal, seals}
 use Rattle.views.proofs.Stores.{words-32, arrived-else, used-alike}

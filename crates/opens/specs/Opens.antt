@@ -12,18 +12,12 @@ use Rattle.server.specs.declared.Stage.{Stage}
 use Rattle.server.specs.declared.Stage.the-variants.{Idle, Packet, Token, Challenge, Seal}
 use Rattle.server.specs.declared.Answer.the-variants.{Refused}
 use Rattle.server.specs.Ready.{bothRefusal}
-use Rattle.turns.specs.Outcomes.{closed, State, Outcome, came, leaves, refuses, Half, Written, written, openRefusal}
+use Rattle.turns.specs.Outcomes.{closed, State, Outcome, came, leaves, refuses, fromSlot, fromPending, Written, written, openRefusal}
 use Rattle.turns.specs.Packets.{Prepared}
 use Rattle.opens.specs.Heard.{slotHeard, pendingHeard}
 use Rattle.opens.specs.Responses.{responded}
 
 -- a packet that was opened, from a slot or a pending place: that table alone changes
-abbrev pub fromSlot : State → Half → Outcome
-fromSlot t h = came (h .turn) (h .table) (t .pending)
-
-abbrev pub fromPending : State → Half → Outcome
-fromPending t h = came (h .turn) (t .slots) (h .table)
-
 unfoldable pub packetOpened : State → Bool → ℕ → PacketType → ℕ → ℕ → ℕ → List ℕ → Outcome
 packetOpened t connected place kind sequence start out d =
     pick connected (fromSlot t (slotHeard (t .server) (t .slots) place kind sequence start d))

@@ -1,6 +1,6 @@
 -- Every answer of the host meets the same tests, each before what follows it: an open ask, tables of set-up's lengths, an answer that fits the
 -- ask, and for an ask to open the output of 1,400 bytes. So the first that fails decides the number, and where none fails there is none.
-use mathlib.Core.Path.{_≡_, refl, sym, _∙_}
+use mathlib.Core.Path.{_≡_, refl, _∙_}
 use mathlib.Core.Bool.{Bool, true, false}
 use Prim.Native.Nat.{ℕ, _*_, _<_}
 use native.Mathlib.Omega.{arith}

@@ -31,11 +31,11 @@ use Rattle.server.specs.declared.Answer.the-variants.{Refused, Ask}
 use Rattle.server.specs.declared.Stage.{Stage}
 use Rattle.server.specs.declared.Stage.the-variants as stage
 use Rattle.server.specs.Ready.{kindOf, roomOf, misplaced, misfits}
-use Rattle.turns.specs.Outcomes.{State, leaves, refuses, closed, Written, written}
+use Rattle.turns.specs.Outcomes.{State, leaves, refuses, closed, Written, written, fromSlot, fromPending}
 use Rattle.turns.specs.Packets.{Prepared, prepared, holding, denied}
 use Rattle.opens.specs.Heard.{accepted, slotSays, slotBody, challengeAsked, pendingSays, pendingBody, bodyIn, slotHeard, pendingHeard}
 use Rattle.opens.specs.Responses.{sendKeyOf, counterOf, connecting, byFree, byId, responded}
-use Rattle.opens.specs.Opens.{fromSlot, fromPending, packetOpened, fromResponse, opened, openAnswerRefusal, opens}
+use Rattle.opens.specs.Opens.{packetOpened, fromResponse, opened, openAnswerRefusal, opens}
 use Rattle.refusals.specs.Answering.{OpenFit, bothOf, ResponseSpent, own, global, OpenSays, opens-17, opens-23, opens-18, opens-8, opens-9, opens-15, OpenLeaves, nothing, closed-8, slot-9, pending-9, emptied-15}
 use Rattle.refusals.proofs.Answers.{same-refusal, not-asked, not-nothing, both-23, open-17, open-tables, open-0, open-18, by-open}
 

@@ -27,9 +27,9 @@ use Rattle.server.specs.declared.Answer.the-variants.{PacketToSend, ClientConne
 use Rattle.server.specs.Held.{heldUserData}
 use Rattle.server.specs.Ready.{overrun, goalMisfits, sealMisfits, misfits}
 use Rattle.turns.specs.declared.Turn.{Turn}
-use Rattle.turns.specs.Outcomes.{refused, closed, spent, State, state, Outcome, came, refuses, Half, half}
+use Rattle.turns.specs.Outcomes.{refused, closed, spent, State, state, Outcome, came, refuses, Half, half, fromSlot}
 use Rattle.seals.specs.Waits.{newcomer, byPlace, bySame, waits, sentUnder, connected}
-use Rattle.seals.specs.Seals.{unsealed, packetAsked, connects, sends, fromSlot, sealed, byStage, sealRefusal, seals}
+use Rattle.seals.specs.Seals.{unsealed, packetAsked, connects, sends, sealed, byStage, sealRefusal, seals}
 
 -- ---- what an ask that fits has
 

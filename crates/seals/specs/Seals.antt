@@ -22,7 +22,7 @@ use Rattle.server.specs.Asking.{asked}
 use Rattle.server.specs.Held.{heldSendKey}
 use Rattle.server.specs.Ready.{bothRefusal, answerRefusal}
 use Rattle.turns.specs.declared.Turn.{Turn}
-use Rattle.turns.specs.Outcomes.{closed, asking, spent, State, Outcome, came, leaves, refuses, Half, half}
+use Rattle.turns.specs.Outcomes.{closed, asking, spent, State, Outcome, came, leaves, refuses, Half, half, fromSlot}
 use Rattle.seals.specs.Waits.{waits, sentUnder, connected}
 
 -- ---- no: 24. A slot that was being ended is empty and no packet comes.
@@ -56,9 +56,6 @@ connects t held j i sequence end =
 unfoldable pub sends : NetcodeServer → List ℕ → ℕ → ℕ → ℕ → Half
 sends s slots i sequence end =
     half (closed s (PacketToSend (addressOf slots (s .set .slots) i) end)) (sentUnder slots (s .set .slots) i sequence (s .«current_time»))
-
-abbrev pub fromSlot : State → Half → Outcome
-fromSlot t h = came (h .turn) (h .table) (t .pending)
 
 unfoldable pub sealed : State → List ℕ → ℕ → ℕ → ℕ → Goal → Outcome
 sealed t held out sequence end (Denied addr) = leaves t (closed (spent (t .server) sequence) (PacketToSend addr end))

@@ -1,14 +1,13 @@
 -- `encode` refuses nothing that it is asked here to write, so what it wrote and asks for is what the definitions say.
-use mathlib.Core.Path.{_≡_, refl, sym, ap, ap₂, _∙_}
-use mathlib.Core.Bool.{Bool, true, false}
-use Prim.Native.Nat.{ℕ, _+_, _-_, _^_, _≤_, _<_}
+use mathlib.Core.Path.{_≡_, ap, ap₂, _∙_}
+use mathlib.Core.Bool.{true, false}
+use Prim.Native.Nat.{ℕ, _-_, _^_, _≤_, _<_}
 use native.Mathlib.Omega.{arith}
 use mathlib.Core.List.{List, []}
 use lib.ListN.{length}
-use lib.Dec.{eqb, ltb}
+use lib.Dec.{ltb}
 use borrow.Author.Tests.{eq-eqb, ne-eqb, le-ltb, lt-ltb}
 use Rattle.serialize.specs.Choice.{pick}
-use Rattle.prefix.specs.Head.{fewest}
 use Rattle.prefix.proofs.Fewest.{fewest-le}
 use Rattle.bodies.specs.declared.Packet.{Packet}
 use Rattle.bodies.specs.declared.Packet.the-variants.{ConnectionDenied, KeepAlive}
@@ -28,7 +27,7 @@ use Rattle.server.specs.Ready.{answerRefusal}
 use Rattle.server.proofs.Ways.{first-refuses, second-decides}
 use Rattle.turns.specs.declared.Turn.{Turn}
 use Rattle.turns.specs.Outcomes.{asking, closed, openRefusal}
-use Rattle.turns.specs.Packets.{sealAsk, sealOut, Sealing, sealing, Spoken, spoken, denied}
+use Rattle.turns.specs.Packets.{sealAsk, sealOut, Sealing, sealing, spoken, denied}
 
 -- ---- writing
 

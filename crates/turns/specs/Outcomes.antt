@@ -2,10 +2,8 @@
 -- open; "When the server says no": a refusal changes nothing but what its line says).
 use Prim.Native.Nat.{ℕ, _+_}
 use mathlib.Core.List.{List}
-use lib.ListN.{length}
-use lib.Dec.{eqb, ltb}
+use lib.Dec.{ltb}
 use Rattle.serialize.specs.Choice.{pick}
-use Rattle.addresses.specs.declared.Address.{Address}
 use Rattle.server.specs.declared.NetcodeServer.{NetcodeServer}
 use Rattle.server.specs.declared.Stage.{Stage}
 use Rattle.server.specs.declared.Ask as host
@@ -79,6 +77,13 @@ pub record Half : Type 0 where
 
 abbrev pub half : Turn → List ℕ → Half
 half r table = record { turn = r; table = table }
+
+-- the slots are that table, and the pending places are as they were; or the other way round
+abbrev pub fromSlot : State → Half → Outcome
+fromSlot t h = came (h .turn) (h .table) (t .pending)
+
+abbrev pub fromPending : State → Half → Outcome
+fromPending t h = came (h .turn) (t .slots) (h .table)
 
 -- the outcome of a call that is lent held bytes and output too
 pub record Written : Type 0 where

@@ -1,7 +1,7 @@
 -- A packet in the output, and the ask to seal it (document 01, "How the host answers": at its first ask to seal, a call has written the
 -- packet from the output's start, tag places excepted, and nothing else there).
-use Prim.Native.Nat.{ℕ, _+_, _-_, _^_}
-use mathlib.Core.List.{List, [], _∷_, _++_}
+use Prim.Native.Nat.{ℕ, _-_, _^_}
+use mathlib.Core.List.{List, []}
 use lib.ListN.{length}
 use lib.Dec.{eqb}
 use Rattle.serialize.specs.Choice.{pick}

@@ -1,15 +1,14 @@
 -- Used addresses stay distinct under every effect: a record that stays keeps its address, one that is made has an address that no record
 -- has, and one that moves leaves the place that it had.
-use mathlib.Core.Path.{_≡_, refl, sym, ap, _∙_}
+use mathlib.Core.Path.{_≡_, sym, ap, _∙_}
 use mathlib.Core.Bool.{Bool, true, false}
 use Prim.Native.Nat.{ℕ}
 use native.Mathlib.Omega.{arith}
-use mathlib.Core.List.{List}
 use lib.Dec.{eqb}
 use borrow.Author.Tests.{eqb-true, eqb-false}
 use Rattle.serialize.proofs.Choice.{by-test}
 use Rattle.places.proofs.Searches.{true-false}
-use Rattle.views.specs.Views.{Place, Slot, Pend, View, advanced, seen, inside}
+use Rattle.views.specs.Views.{Place, Slot, Pend, View, seen, inside}
 use Rattle.views.specs.Effects.{Told, Stays, as-is, ended, Others, Effect, kept, took, made, moved, Apart, Good, Does}
 use Rattle.turns.specs.Outcomes.{State}
 

@@ -2,11 +2,11 @@
 -- the confirmed mark is not seen, and every other write is seen at its own place alone.
 use mathlib.Core.Path.{_≡_, refl, sym, ap, ap₂, _∙_}
 use mathlib.Core.Bool.{Bool, true, false}
-use Prim.Native.Nat.{ℕ, _+_, _*_, _≤_, _<_}
+use Prim.Native.Nat.{ℕ, _+_, _≤_, _<_}
 use native.Mathlib.Nat.{add-zero}
 use native.Mathlib.Omega.{arith}
 use mathlib.Core.List.{List, [], _∷_}
-use lib.ListN.{length, take, set, getD, length-set}
+use lib.ListN.{length, take, set, getD}
 use lib.Seq.{take-all}
 use lib.Dec.{eqb, ltb}
 use borrow.Author.Tests.{lt-ltb, ltb-true, eqb-true, eqb-false}
@@ -23,7 +23,7 @@ use Rattle.replay_protection.proofs.Stored.{length-arrive, arrived-loads}
 use Rattle.addresses.specs.Addresses.{wordsOf}
 use Rattle.places.specs.Layout.{Shaped, addressAt, bodyAt, bodyWords, idOf, usedAt, usedMark, windowPlace}
 use Rattle.places.specs.Columns as columns
-use Rattle.places.specs.Columns.{Marks, Bodies, Field, field, Within, fieldAt, fieldOf, Elsewhere, SameColumns}
+use Rattle.places.specs.Columns.{Marks, Bodies, Field, field, Within, fieldAt, fieldOf, Elsewhere}
 use Rattle.places.proofs.Frame.{Apart, put-elsewhere, store-elsewhere, elsewhere-put, elsewhere-store, shaped-kept}
 use Rattle.places.proofs.Same.{body-put, body-store}
 use Rattle.places.proofs.Searches.{word-of}

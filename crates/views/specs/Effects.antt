@@ -2,7 +2,6 @@
 use Prim.Native.Nat.{ℕ, _≤_}
 use mathlib.Core.Path.{_≡_}
 use mathlib.Core.Bool.{Bool, true, false}
-use mathlib.Core.List.{List}
 use Rattle.serialize.specs.Choice.{pick}
 use Rattle.replay_protection.specs.Replay.{refusal, fresh}
 use Rattle.replay_protection.specs.Ours.{width}
