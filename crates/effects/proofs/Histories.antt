@@ -1,4 +1,5 @@
 -- From set-up on, whatever is called, used addresses are distinct: every call has an effect that the law allows, and the law keeps them apart.
+-- The calls are all that change anything, so this is of every state that is reached from set-up.
 use mathlib.Core.Path.{_≡_, refl, sym, ap, _∙_}
 use mathlib.Core.Bool.{true}
 use Prim.Native.Nat.{ℕ, zero, suc, _<_, min}
@@ -36,12 +37,13 @@ use Rattle.views.specs.Views.{Place, Slot, Pend, View, viewAt, seen}
 use Rattle.views.specs.Effects.{None, Stays, as-is, ended, kept, Good, Does}
 use Rattle.views.proofs.Stores.{view-inside, view-outside, view-within, view-parts, window-alike, unseen-refl}
 use Rattle.views.proofs.Spread.{does-good, slot-not-pend}
-use Rattle.effects.specs.Calls.{Reply, Opens, Grants, Seals, Call, Arrives, Replies, Updates, Limits, replied, next, after, toldBy, told}
+use Rattle.effects.specs.Calls.{Reply, Opens, Grants, Seals, Call, Arrives, Replies, Serves, Updates, Limits, replied, next, after, toldBy, told}
 use Rattle.effects.proofs.Seen.{pick-all, Settled, seen-slot, seen-pend, inside-same, slots-same, all-same, still, unchanged}
 use Rattle.effects.proofs.Arriving.{arrives-does, stage-settled, nothing-asked}
 use Rattle.effects.proofs.Opening.{opens-does}
 use Rattle.effects.proofs.Granting.{grants-does}
 use Rattle.effects.proofs.Sealing.{seals-does}
+use Rattle.effects.proofs.Serving.{serves-does}
 
 -- ---- the clock
 
@@ -125,6 +127,7 @@ module _ (t : State) (good : Good t) where
   unfolding told next
   calls-do (Arrives addr out d) = arrives-does t good addr out d
   calls-do (Replies r) = replies-do r
+  calls-do (Serves v) = serves-does t good v
   calls-do (Updates duration) = updates-does duration
   calls-do (Limits limit) = limits-does limit
 
@@ -213,6 +216,7 @@ good-separate t good = record {
       slot-not-pend i j (good .apart .distinct (Slot i) (Pend j) (a .0) (b .0) (a .1 ∙ e ∙ sym (b .1)));
 }
 
--- USED ADDRESSES STAY DISTINCT through every call, from set-up on
+-- USED ADDRESSES ARE DISTINCT in every state that is reached from set-up by any calls: datagrams, answers, calls for a client, the clock's steps
+-- and new client limits
 pub separate-always : (c : ServerConfig) (t : State) (entries public : List ℕ) → Fresh c (t .server) (t .slots) (t .pending) entries public → (h : List Call) → Separate (after t h)
 separate-always c t entries public fresh h = good-separate (after t h) (good-always t (fresh-good c t entries public fresh) h)

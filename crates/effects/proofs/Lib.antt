@@ -3,5 +3,7 @@ pub mod Arriving
 pub mod Opening
 pub mod Granting
 pub mod Sealing
+pub mod Serving
+pub mod Clients
 pub mod Histories
 pub mod Sparing

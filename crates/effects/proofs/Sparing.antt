@@ -1,5 +1,5 @@
 -- No datagram alters a slot of another address: every write of a call is at the place that its ask is about, that place has the sender's address
--- or was free, and the ask stays about it through the exchange.
+-- or was free, and the ask stays about it through the exchange. No call for a client alters the slot of another: that place is the one its id finds.
 use mathlib.Core.Path.{_≡_, refl, sym, ap, _∙_}
 use mathlib.Core.Bool.{Bool, true, false}
 use Prim.Native.Nat.{ℕ, _+_, _-_, _≤_, _<_}
@@ -30,7 +30,7 @@ use Rattle.places.specs.Finds.{findAddress, findId, findFree}
 use Rattle.places.proofs.Frame.{shaped-kept, elsewhere-refl, elsewhere-trans, elsewhere-put, elsewhere-store}
 use Rattle.places.proofs.Ways.{empty-unused}
 use Rattle.places.proofs.Searches.{address-found, free-found, true-false}
-use Rattle.records.specs.Records.{moved, putTime}
+use Rattle.records.specs.Records.{emptied, moved, putTime}
 use Rattle.records.proofs.Kept.{emptied-elsewhere, time-elsewhere}
 use Rattle.records.proofs.ReadBack.{moved-elsewhere}
 use Rattle.decode.specs.declared.Kind.{Kind}
@@ -64,10 +64,11 @@ use Rattle.grants.specs.Grants.{Granted, grantRefusal, fieldsRefusal, grantedAt
 use Rattle.seals.specs.Waits.{sentUnder, connected}
 use Rattle.seals.specs.Seals.{unsealed, packetAsked, connects, sends, sealed, byStage, sealRefusal, seals}
 use Rattle.views.proofs.Stores.{words-32, arrived-else, used-alike}
-use Rattle.effects.specs.Calls.{Reply, Opens, Grants, Seals, replied, answered}
+use Rattle.effects.specs.Calls.{Reply, Opens, Grants, Seals, Service, clientOf, served, replied, answered}
 use Rattle.effects.specs.Spares.{Kept, GoalSpares, PacketSpares, AskSpares, Spares}
 use Rattle.effects.proofs.Seen.{pick-all, both-false}
 use Rattle.effects.proofs.Opening.{place-below}
+use Rattle.effects.proofs.Serving.{Finds, Leaves, same, asks, ends, ends-asking, service-leaves, finds-below}
 
 -- ---- what a write at place i leaves of the others
 
@@ -418,10 +419,41 @@ module _ (base : List ℕ) (n k : ℕ) (inside : k < n) (used : usedAt base k �
       stage-spares t spared (s .0) (s .1) granted held out (t .server .ask .stage) (spared .ask) (a .fitting))
       (λ _. spared)
 
+  -- ---- a call for another client
+
+  module _ (t : State) (spared : S t) (id : ℕ) (other : findId (t .slots) (t .server .set .slots) id ≡ At k → ⊥) where
+    module _ (i : ℕ) (f : Finds (t .server) (t .slots) id i) where
+      -- the slot that the id finds is another
+      other-found : i ≡ k → ⊥
+      other-found x = other (f .found ∙ ap At x)
+
+      ended-spares : (s : NetcodeServer) → Turns t s → S (state s (emptied (t .slots) i) (t .pending))
+      ended-spares s r =
+          let m = t .server .set .slots in
+          let b = finds-below (t .server) (t .slots) id i f in
+          record {
+            places = ap (λ (x : _). x .slots) (r .set) ∙ spared .places;
+            kept = kept-on (t .slots) (emptied (t .slots) i) m i (spared .places) (emptied-elsewhere (t .slots) m i (b .0) (b .1)) other-found (spared .kept);
+            ask = r .ask;
+          }
+
+    leaves-spares : (s : NetcodeServer) (l : List ℕ) → Leaves (t .server) (t .slots) id s l → S (state s l (t .pending))
+    unfolding withAsk
+    leaves-spares s l same = spared
+    leaves-spares s l (asks i f sequence end out) = turned t spared _ (t .pending) (record { set = refl; ask = other-found i f })
+    leaves-spares s l (ends i f) = ended-spares i f (t .server) (record { set = refl; ask = spared .ask })
+    leaves-spares s l (ends-asking i f addr sequence end out) = ended-spares i f _ (record { set = refl; ask = omega arith })
+
+  -- ---- any answers
+
   answered-spares : (t : State) → S t → (rs : List Reply) → S (answered t rs)
   unfolding answered
   answered-spares t spared [] = spared
   answered-spares t spared (r ∷ rs) = replied-spares (answered t rs) (answered-spares t spared rs) r
+
+-- while no ask is open, a state spares each of its slots
+idle-spares : (t : State) → t .server .ask .stage ≡ stage.Idle → (k : ℕ) → Spares (t .slots) (t .server .set .slots) k t
+idle-spares t idle k = record { places = refl; kept = λ g w. refl; ask = rw idle (omega arith) }
 
 -- NO DATAGRAM ALTERS A SLOT OF ANOTHER ADDRESS: any tables, any datagram, any list of answers, any buffers. Slot k is used and its address is not
 -- the datagram's; no ask is open when the datagram comes (else it is refused as 16, and the answers are another datagram's). Then every word
@@ -431,8 +463,18 @@ pub other-address-kept : (t : State) → t .server .ask .stage ≡ stage.Idle �
     → Kept (t .slots) (answered (arrives t addr out d .state) rs .slots) (t .server .set .slots) k
 other-address-kept t idle addr out d rs k inside used far =
     let n = t .server .set .slots in
-    let start : Spares (t .slots) n k t = record { places = refl; kept = λ g w. refl; ask = rw idle (omega arith) } in
-    answered-spares (t .slots) n k inside used (arrives t addr out d .state) (arrives-spares (t .slots) n k inside used t start idle addr far out d) rs .kept
+    let start = arrives-spares (t .slots) n k inside used t (idle-spares t idle k) idle addr far out d in
+    answered-spares (t .slots) n k inside used (arrives t addr out d .state) start rs .kept
+
+-- NO CALL FOR A CLIENT ALTERS A SLOT OF ANOTHER: any tables, any call for a client, any list of answers, any buffers. Slot k is used and is not the
+-- one that the client's id finds; no ask is open. Then every word of the slot is as it was.
+pub other-client-kept : (t : State) → t .server .ask .stage ≡ stage.Idle → (v : Service) (rs : List Reply)
+    → (k : ℕ) → k < t .server .set .slots → usedAt (t .slots) k ≡ true → (findId (t .slots) (t .server .set .slots) (clientOf v) ≡ At k → ⊥)
+    → Kept (t .slots) (answered (served t v) rs .slots) (t .server .set .slots) k
+other-client-kept t idle v rs k inside used other =
+    let n = t .server .set .slots in
+    let start = leaves-spares (t .slots) n k inside used t (idle-spares t idle k) (clientOf v) other _ _ (service-leaves (t .server) (t .slots) v) in
+    answered-spares (t .slots) n k inside used (served t v) start rs .kept
 
 -- while an ask is open, a datagram changes nothing at all
 pub open-unchanged : (t : State) → (t .server .ask .stage ≡ stage.Idle → ⊥) → (addr : Address) (out : ℕ) (d : List ℕ) → arrives t addr out d ≡ refuses t 16

@@ -1,1 +1,1 @@
-// Theorems on what the calls about a datagram do, over their definitions alone. No code.
+// Theorems on what the calls do, over their definitions alone. No code.

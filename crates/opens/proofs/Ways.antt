@@ -47,10 +47,10 @@ use Rattle.server.specs.Ready.{bothRefusal, roomOf, misplaced, misfits, answerR
 use Rattle.server.proofs.Inversions.{neither, both-shaped, answer-fits}
 use Rattle.turns.specs.declared.Turn.{Turn}
 use Rattle.turns.specs.Outcomes.{refused, closed, asking, State, state, Outcome, came, leaves, refuses, Half, half, Written, written, openRefusal}
-use Rattle.turns.specs.Packets.{sealAsk, sealOut, Sealing, sealing, spoken, Prepared, prepared, holding, denied}
+use Rattle.turns.specs.Packets.{keepAlive, sealAskWith, sealAsk, sealOut, Sealing, sealing, spoken, Prepared, prepared, holding, denied}
 use Rattle.turns.proofs.Ways.{keep-alive-short}
 use Rattle.opens.specs.Heard.{accepted, touched, confirmed, slotSays, slotBody, challengeAsked, pendingSays, pendingBody, bodyIn, slotHeard, pendingHeard}
-use Rattle.opens.specs.Responses.{firstKeepAlive, connecting, sendKeyOf, counterOf, byFree, byId, responded}
+use Rattle.opens.specs.Responses.{connecting, sendKeyOf, counterOf, byFree, byId, responded}
 use Rattle.opens.specs.Opens.{packetOpened, fromResponse, opened, openAnswerRefusal, opens}
 
 -- ---- the window: w is whether the type is windowed
@@ -216,11 +216,11 @@ module _ (s : NetcodeServer) (t : List ℕ) (i : ℕ) (k : PacketType) (sequence
 -- ---- a response whose challenge was opened
 
 -- the keep-alive that connects is sealed, has nothing beside it, and fits the output
-pub keep-alive-fits : (p : Packet) (limit i sequence room : ℕ) → p ≡ firstKeepAlive limit i → sequence < 256 ^ 8 → 1400 ≤ room
+pub keep-alive-fits : (p : Packet) (limit i sequence room : ℕ) → p ≡ keepAlive limit i → sequence < 256 ^ 8 → 1400 ≤ room
     → (isRequest (kindOf p) ≡ false) × (wants (kindOf p) ≡ 0) × (need (kindOf p) 0 sequence ≤ room)
 keep-alive-fits p limit i sequence room e h r =
-    let k : need (kindOf p) 0 sequence ≡ need (kindOf (firstKeepAlive limit i)) 0 sequence = ap (λ (x : Packet). need (kindOf x) 0 sequence) e in
-    let l : need (kindOf (firstKeepAlive limit i)) 0 sequence ≤ 33 = keep-alive-short i (limit % 4294967296) sequence h in
+    let k : need (kindOf p) 0 sequence ≡ need (kindOf (keepAlive limit i)) 0 sequence = ap (λ (x : Packet). need (kindOf x) 0 sequence) e in
+    let l : need (kindOf (keepAlive limit i)) 0 sequence ≤ 33 = keep-alive-short i (limit % 4294967296) sequence h in
     let m : need (kindOf p) 0 sequence ≤ room = omega arith in
     (ap (λ (x : Packet). isRequest (kindOf x)) e, ap (λ (x : Packet). wants (kindOf x)) e, m)
 
@@ -232,7 +232,7 @@ module _ (s : NetcodeServer) (datagram : ℕ) (held out : List ℕ) (j i : ℕ) 
   connecting-late l r e = ap (λ (y : Turn). prepared y held out) e ∙ simp (eq-eqb sequence (2 ^ 64 - 1) (sym counted ∙ l))
 
   abbrev alive : Packet
-  alive = firstKeepAlive (s .«max_clients») i
+  alive = keepAlive (s .«max_clients») i
 
   -- what is asked for and written, with the held bytes
   abbrev sent : ℕ → List ℕ → Sealing → Prepared
@@ -245,7 +245,7 @@ module _ (s : NetcodeServer) (datagram : ℕ) (held out : List ℕ) (j i : ℕ) 
       → (held′ : List ℕ) → held′ ≡ heldChallenge held (token .«client_id») (token .«user_data»)
       → (r : Turn) → r ≡ asking s (stage.Seal (Connecting j i) x (a .end)) datagram (length out) a
       → prepared r held′ out′ ≡ connecting s datagram held out j i key sequence token
-  unfolding connecting pick sealAsk asked
+  unfolding connecting pick sealAskWith asked
   connecting-asks n k ek p ep a out′ e held′ eh r f =
       ap (λ (y : Turn). prepared y held′ out′) f
       ∙ ap₂ (sent x) eh (e ∙ ap₂ (λ (q : Packet) (l : List ℕ). sealed q l x) ep ek)

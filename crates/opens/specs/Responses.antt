@@ -2,15 +2,13 @@
 -- the challenge's id is connected, nothing; if no slot is free, denied; else the lowest free slot takes the record, with the pending id and
 -- the challenge's user data, and a keep-alive goes back). What the slot takes stays in the words of the emptied place until the keep-alive is
 -- sealed; the challenge's user data is held.
-use Prim.Native.Nat.{ℕ, _-_, _%_, _^_}
+use Prim.Native.Nat.{ℕ, _-_, _^_}
 use mathlib.Core.List.{List}
 use lib.ListN.{length}
 use lib.Dec.{eqb}
 use Rattle.serialize.specs.declared.Found.{Found}
 use Rattle.serialize.specs.declared.Found.the-variants.{At, Nothing}
 use Rattle.serialize.specs.Choice.{pick}
-use Rattle.bodies.specs.declared.Packet.{Packet}
-use Rattle.bodies.specs.declared.Packet.the-variants.{KeepAlive}
 use Rattle.bodies.specs.declared.challenge.ChallengeToken.{ChallengeToken}
 use Rattle.bodies.specs.Bodies.{kindOf}
 use Rattle.bodies.specs.Tokens.{tokenAt}
@@ -24,21 +22,17 @@ use Rattle.server.specs.declared.Stage.the-variants.{Seal}
 use Rattle.server.specs.declared.Answer.the-variants as answer
 use Rattle.server.specs.Held.{heldChallenge}
 use Rattle.turns.specs.Outcomes.{closed, asking}
-use Rattle.turns.specs.Packets.{sealAsk, sealOut, Prepared, prepared, holding, denied}
-
--- the keep-alive that connects: slot i, and the client limit
-abbrev pub firstKeepAlive : ℕ → ℕ → Packet
-firstKeepAlive limit i = KeepAlive i (limit % 4294967296)
+use Rattle.turns.specs.Packets.{keepAlive, sealAsk, sealOut, Prepared, prepared, holding, denied}
 
 -- slot i is to take the record of pending place j: a keep-alive under the record's send key and its own counter, 15 where that is 2^64-1
 unfoldable pub connecting : NetcodeServer → ℕ → List ℕ → List ℕ → ℕ → ℕ → List ℕ → ℕ → ChallengeToken → Prepared
 connecting s datagram held out j i key sequence token =
     pick (eqb sequence (2 ^ 64 - 1)) (prepared (closed s (answer.Refused 15)) held out)
     (prepared
-    (asking s (Seal (Connecting j i) sequence (need (kindOf (firstKeepAlive (s .«max_clients») i)) 0 sequence)) datagram (length out)
-    (sealAsk (firstKeepAlive (s .«max_clients») i) (s .set .«protocol_id») key sequence))
+    (asking s (Seal (Connecting j i) sequence (need (kindOf (keepAlive (s .«max_clients») i)) 0 sequence)) datagram (length out)
+    (sealAsk (keepAlive (s .«max_clients») i) (s .set .«protocol_id») key sequence))
     (heldChallenge held (token .«client_id») (token .«user_data»))
-    (sealOut out (firstKeepAlive (s .«max_clients») i) sequence))
+    (sealOut out (keepAlive (s .«max_clients») i) sequence))
 
 -- the send key, the counter and the address of the record at pending place j
 abbrev pub sendKeyOf : NetcodeServer → List ℕ → ℕ → List ℕ

@@ -6,10 +6,9 @@ ghost use Rattle.places.specs.Layout.{Shaped};
 ghost use Rattle.places.specs.Finds.{findFree};
 ghost use Rattle.turns.specs.Outcomes.{state, came, written};
 ghost use Rattle.turns.specs.Packets.{prepared};
-ghost use Rattle.opens.specs.Responses.{sendKeyOf, counterOf, firstKeepAlive, connecting, byFree, responded};
+ghost use Rattle.opens.specs.Responses.{sendKeyOf, counterOf, connecting, byFree, responded};
 ghost use Rattle.opens.specs.Opens.{fromResponse};
 use bodies::ChallengeToken;
-use bodies::Packet;
 use serialize::Found;
 use server::Answer;
 use server::Goal;
@@ -18,17 +17,6 @@ use server::NetcodeServer;
 use server::Stage;
 use turns::MOST;
 use turns::Turn;
-
-// The keep-alive that connects.
-fn first_keep_alive(max_clients: usize, i: usize) -> Packet
-    requires { ⌜ i < 4096 ⌝ }
-    ensures { λ r. ⌜ r ≡ firstKeepAlive «max_clients» i ⌝ }
-{
-    Packet::KeepAlive {
-        client_index: i as u32,
-        max_clients: (max_clients % 4294967296) as u32,
-    }
-}
 
 // Slot i is to take the record of pending place j: a keep-alive is to be sealed, under its send key and its own counter.
 fn ask_connecting(
@@ -52,7 +40,7 @@ fn ask_connecting(
     }
     let len = out.len();
     let key = records::send_key(pending, m, j);
-    let packet = first_keep_alive(server.max_clients, i);
+    let packet = turns::keep_alive(server.max_clients, i);
     let ask = turns::write_packet(out, packet, set.protocol_id, key, sequence);
     let user_data = token.user_data;
     server::hold_challenge(held, token.client_id, &user_data);

@@ -50,7 +50,7 @@ either a b f g n = by (eqb a 0) refl n
     by true e k = g k
     by false e k = f k
 
-length-23 : (len n most : ℕ) → (lengthRefusal len n most ≡ 0 → ⊥) → lengthRefusal len n most ≡ 23
+pub length-23 : (len n most : ℕ) → (lengthRefusal len n most ≡ 0 → ⊥) → lengthRefusal len n most ≡ 23
 unfolding lengthRefusal
 length-23 len n most = three (eqb n 0) (ltb most n) (eqb len (n * placeWords))
 

@@ -3,3 +3,4 @@ pub mod Arrivals
 pub mod Seals
 pub mod Opens
 pub mod Grants
+pub mod Sending

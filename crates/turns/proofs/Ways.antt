@@ -27,24 +27,26 @@ use Rattle.server.specs.Ready.{answerRefusal}
 use Rattle.server.proofs.Ways.{first-refuses, second-decides}
 use Rattle.turns.specs.declared.Turn.{Turn}
 use Rattle.turns.specs.Outcomes.{asking, closed, openRefusal}
-use Rattle.turns.specs.Packets.{sealAsk, sealOut, Sealing, sealing, spoken, denied}
+use Rattle.turns.specs.Packets.{sealAskWith, sealOutWith, sealAsk, sealOut, Sealing, sealing, spoken, denied}
 
 -- ---- writing
 
 abbrev keyed : List ℕ → PrivateKey
 keyed key = record { given = true; bytes = key }
 
-module _ (out : List ℕ) (packet : Packet) (protocol : ℕ) (key : List ℕ) (sequence : ℕ)
-    (sealed : isRequest (kindOf packet) ≡ false) (alone : wants (kindOf packet) ≡ 0) (room : need (kindOf packet) 0 sequence ≤ length out) where
-  writable : unencodable (length out) (kindOf packet) 0 true sequence ≡ 0
+module _ (out : List ℕ) (packet : Packet) (bytes : List ℕ) (protocol : ℕ) (key : List ℕ) (sequence : ℕ)
+    (sealed : isRequest (kindOf packet) ≡ false) (enough : wants (kindOf packet) ≡ 0)
+    (room : need (kindOf packet) (length bytes) sequence ≤ length out) where
+  writable : unencodable (length out) (kindOf packet) (length bytes) true sequence ≡ 0
   unfolding unencodable pick
-  writable = simp (le-ltb (length out) (need (kindOf packet) 0 sequence) room, le-ltb 0 (wants (kindOf packet)) (omega arith))
+  writable =
+      simp (le-ltb (length out) (need (kindOf packet) (length bytes) sequence) room, le-ltb (length bytes) (wants (kindOf packet)) (omega arith))
 
-  pub packet-written : (r : Encoded) (out′ : List ℕ) → done r out′ ≡ encode out packet [] protocol (keyed key) sequence → (a : Ask) → a ≡ asked (r .ask)
-      → sealing a out′ ≡ sealing (sealAsk packet protocol key sequence) (sealOut out packet sequence)
-  unfolding encode writtenAs pick sealAsk sealOut
+  pub packet-written : (r : Encoded) (out′ : List ℕ) → done r out′ ≡ encode out packet bytes protocol (keyed key) sequence → (a : Ask) → a ≡ asked (r .ask)
+      → sealing a out′ ≡ sealing (sealAskWith packet (length bytes) protocol key sequence) (sealOutWith out packet bytes sequence)
+  unfolding encode writtenAs pick sealAskWith sealOutWith
   packet-written r out′ e a f =
-      let w : done r out′ ≡ done (writtenAs (length out) (kindOf packet) 0 protocol (keyed key) sequence) (sealOut out packet sequence) = e ∙ simp writable in
+      let w : done r out′ ≡ done (writtenAs (length out) (kindOf packet) (length bytes) protocol (keyed key) sequence) (sealOutWith out packet bytes sequence) = e ∙ simp writable in
       ap₂ sealing (f ∙ ap (λ (d : Done). asked (d .encoded .ask)) w ∙ simp sealed) (ap (λ (d : Done). d .out) w)
 
 -- a denied has 25 bytes at most
@@ -71,7 +73,7 @@ module _ (s : NetcodeServer) (datagram : ℕ) (out key : List ℕ) (addr : Addre
       → sealing a out′ ≡ sealing (sealAsk ConnectionDenied (s .set .«protocol_id») key g) (sealOut out ConnectionDenied g)
       → (r : Turn) → r ≡ asking s (stage.Seal (Denied addr) g (a .end)) datagram (length out) a
       → spoken r out′ ≡ denied s datagram out key addr
-  unfolding denied pick sealAsk asked
+  unfolding denied pick sealAskWith asked
   denied-asks n a out′ e r f =
       ap (λ (x : Turn). spoken x out′) f
       ∙ ap (λ (w : Sealing). spoken (asking s (stage.Seal (Denied addr) g (w .ask .end)) datagram (length out) (w .ask)) (w .out)) e

@@ -1,6 +1,6 @@
 -- A packet in the output, and the ask to seal it (document 01, "How the host answers": at its first ask to seal, a call has written the
 -- packet from the output's start, tag places excepted, and nothing else there).
-use Prim.Native.Nat.{ℕ, _-_, _^_}
+use Prim.Native.Nat.{ℕ, _-_, _%_, _^_}
 use mathlib.Core.List.{List, []}
 use lib.ListN.{length}
 use lib.Dec.{eqb}
@@ -8,7 +8,7 @@ use Rattle.serialize.specs.Choice.{pick}
 use Rattle.serialize.specs.Runs.{splice}
 use Rattle.prefix.specs.Head.{fewest, prefixByte}
 use Rattle.bodies.specs.declared.Packet.{Packet}
-use Rattle.bodies.specs.declared.Packet.the-variants.{ConnectionDenied}
+use Rattle.bodies.specs.declared.Packet.the-variants.{ConnectionDenied, KeepAlive}
 use Rattle.bodies.specs.Kinds.{numberOf}
 use Rattle.bodies.specs.Bodies.{kindOf}
 use Rattle.asks.specs.declared.Work.the-variants.{Seal}
@@ -24,15 +24,26 @@ use Rattle.server.specs.Asking.{asked}
 use Rattle.turns.specs.declared.Turn.{Turn}
 use Rattle.turns.specs.Outcomes.{asking, closed}
 
--- the ask to seal a packet that has no bytes beside it, under a key and a sequence
-unfoldable pub sealAsk : Packet → ℕ → List ℕ → ℕ → Ask
-sealAsk packet protocol key sequence =
+-- a slot's keep-alive: its index, and the client limit in the 32 bits that its field has
+abbrev pub keepAlive : ℕ → ℕ → Packet
+keepAlive limit i = KeepAlive i (limit % 4294967296)
+
+-- the ask to seal a packet that has so many bytes beside it, under a key and a sequence
+unfoldable pub sealAskWith : Packet → ℕ → ℕ → List ℕ → ℕ → Ask
+sealAskWith packet given protocol key sequence =
     asked (packetAsk Seal key sequence (prefixByte (numberOf (kindOf packet)) (fewest sequence)) protocol
-    (bodyAt (kindOf packet) sequence) (need (kindOf packet) 0 sequence))
+    (bodyAt (kindOf packet) sequence) (need (kindOf packet) given sequence))
 
 -- the output with that packet in clear from its start
-unfoldable pub sealOut : List ℕ → Packet → ℕ → List ℕ
-sealOut out packet sequence = splice out 0 (clear packet [] sequence)
+unfoldable pub sealOutWith : List ℕ → Packet → List ℕ → ℕ → List ℕ
+sealOutWith out packet bytes sequence = splice out 0 (clear packet bytes sequence)
+
+-- the same of a packet that has none
+abbrev pub sealAsk : Packet → ℕ → List ℕ → ℕ → Ask
+sealAsk packet protocol key sequence = sealAskWith packet 0 protocol key sequence
+
+abbrev pub sealOut : List ℕ → Packet → ℕ → List ℕ
+sealOut out packet sequence = sealOutWith out packet [] sequence
 
 -- what a function that writes a packet gives, and the output then
 pub record Sealing : Type 0 where

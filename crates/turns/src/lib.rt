@@ -11,7 +11,9 @@ use server::Stage;
 mod packets;
 
 pub use packets::deny;
+pub use packets::keep_alive;
 pub use packets::write_packet;
+pub use packets::write_packet_with;
 
 // The output that a datagram's call is lent has this many bytes at least.
 pub const NETCODE_MAX_PACKET_BYTES: usize = 1400;

@@ -22,8 +22,8 @@ returns c =
 send-key-requires : tie.Need-send-key-requires
 send-key-requires c κs = search needs
 
-first-keep-alive-requires : tie.Need-first-keep-alive-requires
-first-keep-alive-requires c κs = search needs
+keep-alive-requires : tie.Need-keep-alive-requires
+keep-alive-requires c κs = search needs
 
 write-packet-requires : tie.Need-write-packet-requires
 write-packet-requires c κs =
@@ -31,7 +31,7 @@ write-packet-requires c κs =
     let x = p .before .before .before in
     let f = x .before .before .before .before in
     let b : x .sequence .result < 256 ^ 8 = search needs in
-    keep-alive-fits _ _ (f .args .i) _ _ (p .first-keep-alive .ensures) b (f .pre .3)
+    keep-alive-fits _ _ (f .args .i) _ _ (p .keep-alive .ensures) b (f .pre .3)
 
 hold-challenge-requires : tie.Need-hold-challenge-requires
 hold-challenge-requires c κs = search needs
@@ -52,7 +52,7 @@ returns-2 c =
     let x = f .before in
     let a = x .before .before .before .before .args in
     connecting-asks (a .server) (a .datagram) (a .held .now) (a .out .now) (a .j) (a .i) _ _ (a .token) _ (x .sequence .ensures) (f .if1 .left) _
-    (k .send-key .ensures) _ (p .first-keep-alive .ensures)
+    (k .send-key .ensures) _ (p .keep-alive .ensures)
     _ _ (w .write-packet .ensures) _ (h .hold-challenge .ensures) _ (c .asking .ensures)
 
 pub ask-connecting-spec : {M : Type 1} → statement M
@@ -63,7 +63,7 @@ ask-connecting-spec =
     closed-requires
     returns
     send-key-requires
-    first-keep-alive-requires
+    keep-alive-requires
     write-packet-requires
     hold-challenge-requires
     asking-requires

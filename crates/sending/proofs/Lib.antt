@@ -1,0 +1,3 @@
+pub mod Ways
+pub mod Meaning
+pub mod Determined
