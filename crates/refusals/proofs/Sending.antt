@@ -265,9 +265,9 @@ module _ (s : NetcodeServer) (slots : List ℕ) (id : ℕ) (out : List ℕ) wher
   update-passes k = tested-passes (updatedAt s id slots out (findId slots (s .set .slots) id)) k
 
   -- an unknown id is nothing
-  pub update-unknown : Ready s slots → findId slots (s .set .slots) id ≡ found.Nothing → clientUpdated s slots id out ≡ served (answered s Nothing) slots out
+  pub update-client-unknown : Ready s slots → findId slots (s .set .slots) id ≡ found.Nothing → clientUpdated s slots id out ≡ served (answered s Nothing) slots out
   unfolding updatedAt
-  update-unknown k e = update-passes k ∙ ap (updatedAt s id slots out) e
+  update-client-unknown k e = update-passes k ∙ ap (updatedAt s id slots out) e
 
   update-at : (i : ℕ) → Client s slots id i → updated ≡ slotUpdated s id slots i out
   unfolding updatedAt
@@ -294,9 +294,9 @@ module _ (s : NetcodeServer) (slots : List ℕ) (id : ℕ) (out : List ℕ) wher
   update-given n (update-14-keeps i k e f x) = update-keeps i k e f ∙ ap (keeping slots) (sending-14 s slots i (keepAlive (s .«max_clients») i) [] out x)
 
   -- a slot that ends with 15 is empty, and record and output are as they were
-  pub update-spent-leaves : (c : ℕ) (a : Address) (e : UpdateSpent s slots id c a)
+  pub update-client-spent-leaves : (c : ℕ) (a : Address) (e : UpdateSpent s slots id c a)
       → clientUpdated s slots id out ≡ served (answered s (ClientDisconnected c a 0 15)) (emptied slots (e .ends .place)) out
-  update-spent-leaves c a e = report updated c a (e .ends) (update-ends (e .ends .place) (e .ends .client) (e .late))
+  update-client-spent-leaves c a e = report updated c a (e .ends) (update-ends (e .ends .place) (e .ends .client) (e .late))
 
   abbrev UpdateWay : Type 0
   UpdateWay = Way (UpdateSays s slots id out) (UpdateSpent s slots id) (updated .turn .answer)
@@ -310,7 +310,7 @@ module _ (s : NetcodeServer) (slots : List ℕ) (id : ℕ) (out : List ℕ) wher
       (λ x.
       let a : Address = addressOf slots (s .set .slots) i in
       let y : UpdateSpent s slots id id a = record { ends = here i k x; late = e } in
-      ends id a y (ap tells (update-spent-leaves id a y)))
+      ends id a y (ap tells (update-client-spent-leaves id a y)))
       (λ x. update-line 14 (update-14-ends i k e x))
       (λ f l. asks (ap tells (update-ends i k e) ∙ ending-asks s slots i id out f l))
 
@@ -335,19 +335,19 @@ module _ (s : NetcodeServer) (slots : List ℕ) (id : ℕ) (out : List ℕ) wher
       (λ i e.
       let c : Client s slots id i = record { ready = k; found = e } in
       by-test (overdue s slots i) (λ o. update-late i c o) (λ o. update-timely i c o))
-      (λ e. rests (ap tells (update-unknown k e))))
+      (λ e. rests (ap tells (update-client-unknown k e))))
 
   -- the call refuses by n exactly when the table says n
-  pub update-exactly : (n : ℕ) → (clientUpdated s slots id out .turn .answer ≡ Refused n) ↔ UpdateSays s slots id out n
-  update-exactly n = (refused-by n update-way, λ x. ap tells (update-given n x))
+  pub update-client-exactly : (n : ℕ) → (clientUpdated s slots id out .turn .answer ≡ Refused n) ↔ UpdateSays s slots id out n
+  update-client-exactly n = (refused-by n update-way, λ x. ap tells (update-given n x))
 
   -- and then leaves everything
-  pub update-leaves : (n : ℕ) → clientUpdated s slots id out .turn .answer ≡ Refused n → clientUpdated s slots id out ≡ served (refused s n) slots out
-  update-leaves n e = update-given n (refused-by n update-way e)
+  pub update-client-leaves : (n : ℕ) → clientUpdated s slots id out .turn .answer ≡ Refused n → clientUpdated s slots id out ≡ served (refused s n) slots out
+  update-client-leaves n e = update-given n (refused-by n update-way e)
 
   -- it ends a slot with 15 exactly where that slot is overdue and its counter spent
-  pub update-spent : (c : ℕ) (a : Address) → (clientUpdated s slots id out .turn .answer ≡ ClientDisconnected c a 0 15) ↔ UpdateSpent s slots id c a
-  update-spent c a = (ended-by c a update-way, λ e. ap tells (update-spent-leaves c a e))
+  pub update-client-spent : (c : ℕ) (a : Address) → (clientUpdated s slots id out .turn .answer ≡ ClientDisconnected c a 0 15) ↔ UpdateSpent s slots id c a
+  update-client-spent c a = (ended-by c a update-way, λ e. ap tells (update-client-spent-leaves c a e))
 
   -- ---- disconnect
 
