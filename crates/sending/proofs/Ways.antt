@@ -39,7 +39,7 @@ use Rattle.turns.specs.declared.Turn.{Turn}
 use Rattle.turns.specs.Outcomes.{answered, refused, asking}
 use Rattle.turns.specs.Packets.{keepAlive, sealAskWith, sealOutWith, sealAsk, sealOut, Sealing, sealing, Spoken, spoken}
 use Rattle.sending.specs.Packets.{readyRefusal, limitRefusal, sendingUnder, sending, payloadRefusal, byClient, generated, Served, served, endingUnder, ending}
-use Rattle.sending.specs.Clients.{overZero, overdueAt, overdue, silent, keeping, idly, slotUpdated, updatedAt, endedAt, clientUpdated, disconnected}
+use Rattle.sending.specs.Clients.{overZero, overdueAt, overdue, silent, keeping, idly, slotUpdated, updatedAt, endedAt, clientUpdated, disconnected, slotAttended, attended}
 
 -- ---- a packet's need
 
@@ -258,6 +258,15 @@ module _ (s : NetcodeServer) (id : ℕ) (slots : List ℕ) (i : ℕ) (out : List
     unfolding slotUpdated pick
     slot-rests u t e = ap (λ (y : Turn). served y slots out) e ∙ simp (sym tested ∙ on-time, sym asked-too ∙ u)
 
+module _ (s : NetcodeServer) (id : ℕ) (slots : List ℕ) (i : ℕ) (away : Bool) (out : List ℕ) (x : Served) where
+  pub slot-away : away ≡ true → x ≡ ending s id slots i out → x ≡ slotAttended s id slots i away out
+  unfolding pick
+  slot-away t e = e ∙ simp t
+
+  pub slot-turn : away ≡ false → x ≡ slotUpdated s id slots i out → x ≡ slotAttended s id slots i away out
+  unfolding pick
+  slot-turn f e = e ∙ simp f
+
 -- ---- the calls about a client
 
 -- r is what the tests gave
@@ -269,40 +278,29 @@ module _ (s : NetcodeServer) (slots : List ℕ) (id : ℕ) (out : List ℕ) (r :
     not-0 : eqb (readyRefusal s (length slots)) 0 ≡ false
     not-0 = ne-eqb (readyRefusal s (length slots)) 0 (λ z. n (tested ∙ z))
 
-    pub update-refused : served t slots out ≡ clientUpdated s slots id out
-    unfolding clientUpdated pick
-    update-refused = unready ∙ simp not-0
-
-    pub disconnect-refused : served t slots out ≡ disconnected s slots id out
-    unfolding disconnected pick
-    disconnect-refused = unready ∙ simp not-0
+    pub attend-refused : (away : Bool) → served t slots out ≡ attended s slots id away out
+    unfolding pick clientUpdated disconnected
+    attend-refused true = unready ∙ simp not-0
+    attend-refused false = unready ∙ simp not-0
 
   module _ (zero : r ≡ 0) (f : Found) (searched : f ≡ findId slots (s .set .slots) id) where
-    is-0 : eqb (readyRefusal s (length slots)) 0 ≡ true
-    is-0 = eq-eqb (readyRefusal s (length slots)) 0 (sym tested ∙ zero)
+    -- by what the search found
+    abbrev by-found : Bool → Found → Served
+    by-found away x = pick away (endedAt s id slots out x) (updatedAt s id slots out x)
 
-    updated : updatedAt s id slots out f ≡ clientUpdated s slots id out
-    unfolding clientUpdated pick
-    updated = ap (updatedAt s id slots out) searched ∙ simp is-0
+    reached : (away : Bool) → by-found away f ≡ attended s slots id away out
+    unfolding pick clientUpdated disconnected
+    reached true = ap (endedAt s id slots out) searched ∙ simp (eq-eqb (readyRefusal s (length slots)) 0 (sym tested ∙ zero))
+    reached false = ap (updatedAt s id slots out) searched ∙ simp (eq-eqb (readyRefusal s (length slots)) 0 (sym tested ∙ zero))
 
-    ends : endedAt s id slots out f ≡ disconnected s slots id out
-    unfolding disconnected pick
-    ends = ap (endedAt s id slots out) searched ∙ simp is-0
+    pub attend-found : (i : ℕ) → f ≡ found.At i → (x : Served) (away : Bool) → x ≡ slotAttended s id slots i away out → x ≡ attended s slots id away out
+    unfolding updatedAt endedAt
+    attend-found i e x away g = g ∙ ap (by-found away) (sym e) ∙ reached away
 
-    module _ (i : ℕ) (e : f ≡ found.At i) (x : Served) where
-      pub update-found : x ≡ slotUpdated s id slots i out → x ≡ clientUpdated s slots id out
-      unfolding updatedAt
-      update-found g = g ∙ ap (updatedAt s id slots out) (sym e) ∙ updated
+    nobody : (away : Bool) → idly s slots out ≡ by-found away found.Nothing
+    unfolding pick updatedAt endedAt
+    nobody true = refl
+    nobody false = refl
 
-      pub disconnect-found : x ≡ ending s id slots i out → x ≡ disconnected s slots id out
-      unfolding endedAt
-      disconnect-found g = g ∙ ap (endedAt s id slots out) (sym e) ∙ ends
-
-    module _ (e : f ≡ found.Nothing) (t : Turn) (g : t ≡ answered s Nothing) where
-      pub update-missed : served t slots out ≡ clientUpdated s slots id out
-      unfolding updatedAt
-      update-missed = ap (λ (y : Turn). served y slots out) g ∙ ap (updatedAt s id slots out) (sym e) ∙ updated
-
-      pub disconnect-missed : served t slots out ≡ disconnected s slots id out
-      unfolding endedAt
-      disconnect-missed = ap (λ (y : Turn). served y slots out) g ∙ ap (endedAt s id slots out) (sym e) ∙ ends
+    pub attend-missed : f ≡ found.Nothing → (t : Turn) → t ≡ answered s Nothing → (away : Bool) → served t slots out ≡ attended s slots id away out
+    attend-missed e t g away = ap (λ (y : Turn). served y slots out) g ∙ nobody away ∙ ap (by-found away) (sym e) ∙ reached away

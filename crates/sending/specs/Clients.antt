@@ -76,3 +76,10 @@ unfoldable pub disconnected : NetcodeServer → List ℕ → ℕ → List ℕ �
 disconnected s slots id out =
     pick (eqb (readyRefusal s (length slots)) 0) (endedAt s id slots out (findId slots (s .set .slots) id))
     (served (refused s (readyRefusal s (length slots))) slots out)
+
+-- either of the two, of a slot and as a whole: sent away, or updated
+abbrev pub slotAttended : NetcodeServer → ℕ → List ℕ → ℕ → Bool → List ℕ → Served
+slotAttended s id slots i away out = pick away (ending s id slots i out) (slotUpdated s id slots i out)
+
+abbrev pub attended : NetcodeServer → List ℕ → ℕ → Bool → List ℕ → Served
+attended s slots id away out = pick away (disconnected s slots id out) (clientUpdated s slots id out)

@@ -5,7 +5,7 @@ ghost use mathlib.Core.List.{[]};
 ghost use Rattle.places.specs.Layout.{Shaped};
 ghost use Rattle.turns.specs.Packets.{keepAlive, spoken};
 ghost use Rattle.sending.specs.Packets.{sending, served};
-ghost use Rattle.sending.specs.Clients.{overdue, silent, slotUpdated, clientUpdated, disconnected};
+ghost use Rattle.sending.specs.Clients.{overdue, silent, slotUpdated, clientUpdated, disconnected, slotAttended, attended};
 use crate::packets;
 use serialize::Found;
 use server::Answer;
@@ -74,7 +74,46 @@ fn update_slot(
     turns::answered(server, Answer::Nothing)
 }
 
-// The lowest slot with the id, once a step of the clock: 16, 23; an unknown id is nothing; 15, 14, or an ask to seal.
+// Slot i is ended if its client is sent away, and else updated.
+fn attend_slot(
+    server: NetcodeServer,
+    client_id: u64,
+    slots: &mut [u64],
+    i: usize,
+    away: bool,
+    out: &mut [u8],
+) -> Turn
+    requires { ⌜ Shaped (now slots) (server .set .slots) × (i < server .set .slots) ⌝ }
+    ensures { λ r. ⌜ served r (now (slots .exit)) (now (out .exit)) ≡ slotAttended server «client_id» (now (slots .entry)) i away (now (out .entry)) ⌝ }
+{
+    if away {
+        return packets::end(server, client_id, slots, i, out);
+    }
+    update_slot(server, client_id, slots, i, out)
+}
+
+// The lowest slot with the id: 16, 23; an unknown id is nothing.
+fn attend(
+    server: NetcodeServer,
+    client_id: u64,
+    slots: &mut [u64],
+    away: bool,
+    out: &mut [u8],
+) -> Turn
+    ensures { λ r. ⌜ served r (now (slots .exit)) (now (out .exit)) ≡ attended server (now (slots .entry)) «client_id» away (now (out .entry)) ⌝ }
+{
+    let refusal = crate::ready_refusal(server, slots.len());
+    if refusal != 0 {
+        return turns::refused(server, refusal);
+    }
+    let set = server.set;
+    match places::find_by_id(slots, set.slots, client_id) {
+        Found::At(i) => attend_slot(server, client_id, slots, i, away, out),
+        Found::Nothing => turns::answered(server, Answer::Nothing),
+    }
+}
+
+// A client's turn, once a step of the clock: 16, 23; an unknown id is nothing; 15, 14, or an ask to seal.
 pub fn update_client(
     server: NetcodeServer,
     client_id: u64,
@@ -83,28 +122,12 @@ pub fn update_client(
 ) -> Turn
     ensures { λ r. ⌜ served r (now (slots .exit)) (now (out .exit)) ≡ clientUpdated server (now (slots .entry)) «client_id» (now (out .entry)) ⌝ }
 {
-    let refusal = crate::ready_refusal(server, slots.len());
-    if refusal != 0 {
-        return turns::refused(server, refusal);
-    }
-    let set = server.set;
-    match places::find_by_id(slots, set.slots, client_id) {
-        Found::At(i) => update_slot(server, client_id, slots, i, out),
-        Found::Nothing => turns::answered(server, Answer::Nothing),
-    }
+    attend(server, client_id, slots, false, out)
 }
 
-// The lowest slot with the id ended: 16, 23; an unknown id is nothing; 15, 14, or an ask to seal.
+// A client sent away: 16, 23; an unknown id is nothing; 15, 14, or an ask to seal.
 pub fn disconnect(server: NetcodeServer, client_id: u64, slots: &mut [u64], out: &mut [u8]) -> Turn
     ensures { λ r. ⌜ served r (now (slots .exit)) (now (out .exit)) ≡ disconnected server (now (slots .entry)) «client_id» (now (out .entry)) ⌝ }
 {
-    let refusal = crate::ready_refusal(server, slots.len());
-    if refusal != 0 {
-        return turns::refused(server, refusal);
-    }
-    let set = server.set;
-    match places::find_by_id(slots, set.slots, client_id) {
-        Found::At(i) => packets::end(server, client_id, slots, i, out),
-        Found::Nothing => turns::answered(server, Answer::Nothing),
-    }
+    attend(server, client_id, slots, true, out)
 }

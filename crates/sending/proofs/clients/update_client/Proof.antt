@@ -1,50 +1,11 @@
--- The tests, and then what the search found.
-use Rattle.sending.proofs.Ways.{ready-shaped, found-below, update-refused, update-found, update-missed}
+-- Not sent away: the second of the two.
+use Rattle.serialize.specs.Choice.{pick}
 use borrow.Author.Needs.{needs}
 use Rattle.sending.proofs.clients.update_client.Statement.{statement}
 use Rattle.sending.proofs.clients.update_client.Tie as tie
 
-ready-refusal-requires : tie.Need-ready-refusal-requires
-ready-refusal-requires c κs = search needs
-
-refused-requires : tie.Need-refused-requires
-refused-requires c κs = search needs
-
-returns : tie.Need-returns
-returns c =
-    let t = c .before in
-    let r = t .before in
-    let f = r .before .before .before in
-    let a = f .args in
-    update-refused (a .server) (a .slots .now) (a .client-id) (a .out .now) _ (r .ready-refusal .ensures) (t .if1 .taken) _ (c .refused .ensures)
-
-find-by-id-requires : tie.Need-find-by-id-requires
-find-by-id-requires c κs =
-    let t = c .before .before in
-    let r = t .before in
-    let f = r .before .before .before in
-    let a = f .args in
-    ready-shaped (a .server) (a .slots .now) _ (r .ready-refusal .ensures) (t .if1 .left)
-
-enum-known-i : tie.Need-enum-known-i
-enum-known-i c = search needs
-
-update-slot-requires : tie.Need-update-slot-requires
-update-slot-requires c κs =
-    let i = c .before .before .before in
-    let s = i .before .before in
-    let t = s .before .before .before in
-    let r = t .before in
-    let f = r .before .before .before in
-    let a = f .args in
-    let z = ready-shaped (a .server) (a .slots .now) _ (r .ready-refusal .ensures) (t .if1 .left) in
-    (z, found-below (a .slots .now) (a .server .set .slots) (a .client-id) z _ (s .find-by-id .ensures) _ (i .i .given .1))
-
-enum-told : tie.Need-enum-told
-enum-told c = search needs
-
-answered-requires : tie.Need-answered-requires
-answered-requires c κs = search needs
+attend-requires : tie.Need-attend-requires
+attend-requires c κs = search needs
 
 same-length : tie.Need-same-length
 same-length c = search needs
@@ -52,44 +13,9 @@ same-length c = search needs
 same-length-2 : tie.Need-same-length-2
 same-length-2 c = search needs
 
-returns-2 : tie.Need-returns-2
-returns-2 c =
-    let p = c .before .before .before .before in
-    let i = p .before .before .before .before in
-    let s = i .before .before in
-    let t = s .before .before .before in
-    let r = t .before in
-    let f = r .before .before .before in
-    let a = f .args in
-    update-found (a .server) (a .slots .now) (a .client-id) (a .out .now) _ (r .ready-refusal .ensures) (t .if1 .left) _ (s .find-by-id .ensures) _ (i .i .given .1) _ (p .update-slot .ensures)
-
-same-length-3 : tie.Need-same-length-3
-same-length-3 c = search needs
-
-returns-3 : tie.Need-returns-3
-returns-3 c =
-    let m = c .before in
-    let s = m .before .before in
-    let t = s .before .before .before in
-    let r = t .before in
-    let f = r .before .before .before in
-    let a = f .args in
-    update-missed (a .server) (a .slots .now) (a .client-id) (a .out .now) _ (r .ready-refusal .ensures) (t .if1 .left) _ (s .find-by-id .ensures) (m .enum-told .given .1) _ (c .answered .ensures)
+returns : tie.Need-returns
+unfolding pick
+returns c = c .before .before .before .before .attend .ensures
 
 pub update-client-spec : {M : Type 1} → statement M
-update-client-spec =
-    tie.close
-    (tie.spec
-    ready-refusal-requires
-    refused-requires
-    returns
-    find-by-id-requires
-    enum-known-i
-    update-slot-requires
-    enum-told
-    answered-requires
-    same-length
-    same-length-2
-    returns-2
-    same-length-3
-    returns-3)
+update-client-spec = tie.close (tie.spec attend-requires same-length same-length-2 returns)
