@@ -1,13 +1,11 @@
 // The host's answer to an ask to open a request's private token.
 ghost use mathlib.Core.Path.{_≡_};
 ghost use Prim.Native.Nat.{_≤_};
-ghost use mathlib.Core.Bool.{_&&_};
 ghost use lib.ListN.{length};
 ghost use Rattle.places.specs.Layout.{Shaped};
 ghost use Rattle.entries.specs.Layout as entry;
 ghost use Rattle.turns.specs.Outcomes.{state, came};
-ghost use Rattle.grants.specs.Tokens.{considered};
-ghost use Rattle.grants.specs.Grants.{granted, listUnfit, fieldsRefusal, grantRefusal, foreign, fromToken, grantedAt, grants};
+ghost use Rattle.grants.specs.Grants.{granted, listUnfit, fieldsRefusal, grantRefusal, foreign, grantedAt, grants};
 use server::Answer;
 use server::HELD_BYTES;
 use server::NetcodeServer;

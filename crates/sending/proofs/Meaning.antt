@@ -1,11 +1,10 @@
 -- When a pump is given up, in numbers: the tests of the definition hold exactly when the sums of whole nanoseconds say so.
-use mathlib.Core.Path.{_≡_, refl, sym, _∙_}
+use mathlib.Core.Path.{_≡_, refl}
 use mathlib.Core.Logic.{_↔_}
 use mathlib.Core.Bool.{Bool, true, false, _&&_}
-use Prim.Native.Nat.{ℕ, _+_, _*_, _-_, _^_, _≤_, _<_}
-use native.Mathlib.Omega.{arith}
+use Prim.Native.Nat.{ℕ, _+_, _*_, _^_, _<_}
 use lib.Dec.{ltb}
-use borrow.Author.Tests.{lt-ltb, le-ltb, ltb-true}
+use borrow.Author.Tests.{lt-ltb, ltb-true}
 use Rattle.places.proofs.Searches.{true-false}
 use Rattle.times.specs.declared.Time.{Time}
 use Rattle.times.specs.Times.{second, time, whole, past}

@@ -1,6 +1,5 @@
 // A payload of the host's, for a connected pump.
 ghost use mathlib.Core.Path.{_≡_};
-ghost use lib.ListN.{length};
 ghost use Rattle.turns.specs.Packets.{spoken};
 ghost use Rattle.sending.specs.Packets.{payloadRefusal, generated};
 use crate::packets;

@@ -1,9 +1,8 @@
 // What the calls about a datagram have in common: how they end, and the packets that they write.
 ghost use mathlib.Core.Path.{_≡_};
-ghost use Rattle.turns.specs.Outcomes.{answered, refused, closed, asking, spent, openRefusal};
+ghost use Rattle.turns.specs.Outcomes.{answered, refused, closed, asking, openRefusal};
 use server::Answer;
 use server::Ask;
-use server::Counters;
 use server::NetcodeServer;
 use server::OpenAsk;
 use server::Stage;
