@@ -27,6 +27,7 @@ archives_of() { # FOLDER CRATES
         serialize prefix replay_protection bodies asks encode decode &&
         archive "$folder" "$crates" table_calls "$crates/table_calls/src/lib.rt" \
             serialize times addresses replay_protection entries places &&
-        archive "$folder" "$crates" server_calls "$crates/server_calls/src/lib.rt" \
-            serialize prefix replay_protection bodies asks times addresses entries places records server upkeep queries
+        archive "$folder" "$crates" netcode "$crates/netcode/src/lib.rt" \
+            serialize prefix replay_protection bodies asks encode decode times addresses entries places records server \
+            upkeep queries turns arrivals opens grants seals sending
 }

@@ -1,4 +1,4 @@
-//! Links our three static libraries, `libcalls.a`, `libtable_calls.a` and `libserver_calls.a`, from where
+//! Links our three static libraries, `libcalls.a`, `libtable_calls.a` and `libnetcode.a`, from where
 //! `rt staticlib` writes them or from OURS_LIB.
 
 use std::env;
@@ -12,7 +12,7 @@ fn main() {
             .join("../../target/staticlib"),
     };
     println!("cargo:rustc-link-search=native={}", folder.display());
-    for library in ["calls", "table_calls", "server_calls"] {
+    for library in ["calls", "table_calls", "netcode"] {
         let archive = folder.join(format!("lib{library}.a"));
         println!("cargo:rerun-if-changed={}", archive.display());
         println!("cargo:rustc-link-lib=static={library}");

@@ -1,41 +1,93 @@
-//! Time per call, ours against the original, in one process, with a cipher that does nothing.
+//! Time per call, ours against the Rust's, in one process, as ratios: whole servers with a cipher that does
+//! nothing and with libsodium's, then single parts with the cipher that does nothing.
 //!
-//! What is measured: the original's `encode` and `decode` as a program calls them, each with one call
-//! of the idle cipher inside; ours as a host calls them through C: the call, the idle cipher on the
-//! part that the ask names, the answer. The original is compiled into this program and may be inlined;
-//! ours can't be. The searches, the clock and the queries are one call on either side, on the tables that
-//! each side keeps. What is not measured: the cipher, and the work of a server around these calls.
+//! The Rust is compiled from its own files, ours is linked as the static library that was proved; its calls
+//! can't be inlined. Both sides get the same input, round by round, and every answer is checked.
 
-mod packets;
+mod leaves;
+mod report;
 mod rounds;
-mod servers;
-mod tables;
-mod windows;
+mod server;
 
-use rounds::Row;
+use std::path::PathBuf;
+use std::process::ExitCode;
 
-fn main() {
-    let rows: Vec<Row> = [
-        packets::encode_keep_alive(),
-        packets::encode_payload(100),
-        packets::encode_payload(1200),
-        packets::decode_payload(100),
-        packets::decode_payload(1200),
+use report::Section;
+
+const USAGE: &str = "usage: bench [--write FOLDER]
+
+Prints a table; with --write it is also written to FOLDER/BENCHMARKS.md, with a picture in
+FOLDER/benchmarks.svg.";
+
+/// The folder to write to, if one is given.
+fn folder() -> Result<Option<PathBuf>, String> {
+    let mut words = std::env::args_os().skip(1);
+    match (words.next(), words.next(), words.next()) {
+        (None, _, _) => Ok(None),
+        (Some(flag), Some(folder), None) if flag == "--write" => {
+            let folder = PathBuf::from(folder);
+            match folder.is_dir() {
+                true => Ok(Some(folder)),
+                false => Err(format!("{} is no folder", folder.display())),
+            }
+        }
+        _ => Err(USAGE.to_string()),
+    }
+}
+
+fn sections() -> Vec<Section> {
+    vec![
+        Section::drawn(
+            "Payload received",
+            "process_packet, 9 bytes",
+            server::received(),
+        ),
+        Section::drawn(
+            "Payload sent",
+            "generate_payload_packet, 9 bytes",
+            server::sent(),
+        ),
+        Section::drawn(
+            "Connection request",
+            "process_packet, to the challenge",
+            server::requests(),
+        ),
+        Section::drawn(
+            "A turn each",
+            "update_client over all, per client",
+            server::turns(),
+        ),
+        Section::listed(
+            "Clock and queries",
+            "idle cipher, drop-in",
+            server::queries(),
+        ),
+        Section::listed(
+            "Single parts",
+            "idle cipher, the libraries of the comparison",
+            leaves::rows(),
+        ),
     ]
-    .into_iter()
-    .chain(windows::rows())
-    .chain([tables::by_address(), tables::by_id(), tables::find_or_add()])
-    .chain(servers::rows())
-    .collect();
-    println!(
-        "time per call; medians of {} rounds, the ratio with its least and most over the rounds",
-        rounds::ROUNDS
-    );
-    println!(
-        "{:<48} {:>9} {:>9} {:>6} {:>14}",
-        "call", "Rust, ns", "ours, ns", "ratio", "least to most"
-    );
-    for row in rows {
-        row.print();
+}
+
+fn run() -> Result<(), String> {
+    let folder = folder()?;
+    let machine = report::machine();
+    let sections = sections();
+    report::print(&machine, &sections);
+    match folder {
+        Some(folder) => report::write(&folder, &machine, &sections)
+            .map_err(|error| format!("{}: {error}", folder.display())),
+        None => Ok(()),
+    }
+}
+
+fn main() -> ExitCode {
+    match run() {
+        Ok(()) => ExitCode::SUCCESS,
+        Err(text) => {
+            eprintln!("{text}");
+            ExitCode::FAILURE
+        }
     }
 }

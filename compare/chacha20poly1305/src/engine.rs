@@ -7,7 +7,7 @@ pub fn seal(
     additional: &[u8],
     buffer: &mut [u8],
 ) -> Result<[u8; 16], Error> {
-    let granted = !watch::seals_are_refused();
+    let granted = !watch::seal_is_refused();
     watch::note(|| Asked {
         seal: true,
         key: *key,
@@ -34,7 +34,7 @@ pub fn open(
     buffer: &mut [u8],
     tag: &[u8; 16],
 ) -> Result<(), Error> {
-    let granted = sodium::verify(key, nonce, additional, buffer, tag);
+    let granted = !watch::ask_is_refused() && sodium::verify(key, nonce, additional, buffer, tag);
     watch::note(|| Asked {
         seal: false,
         key: *key,

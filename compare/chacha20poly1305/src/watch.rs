@@ -22,12 +22,15 @@ pub struct Asked {
 thread_local! {
     static RECORDING: Cell<bool> = const { Cell::new(false) };
     static REFUSING: Cell<bool> = const { Cell::new(false) };
+    static REFUSED: Cell<Option<usize>> = const { Cell::new(None) };
+    static COUNT: Cell<usize> = const { Cell::new(0) };
     static RECORD: RefCell<Vec<Asked>> = const { RefCell::new(Vec::new()) };
 }
 
 /// Empties the record and switches recording on.
 pub fn start() {
     RECORD.take();
+    COUNT.set(0);
     RECORDING.set(true);
 }
 
@@ -43,9 +46,23 @@ pub fn refuse_seals(on: bool) {
     REFUSING.set(on);
 }
 
+/// The ask of this number, counted from `start`, seal or open, fails and leaves its buffer alone; none where it is `None`.
+pub fn refuse_at(ask: Option<usize>) {
+    REFUSED.set(ask);
+}
+
+/// Whether this seal, the next of all asks, is to fail.
 #[cfg(not(feature = "idle"))]
-pub(crate) fn seals_are_refused() -> bool {
-    REFUSING.get()
+pub(crate) fn seal_is_refused() -> bool {
+    ask_is_refused() || REFUSING.get()
+}
+
+/// Whether this ask, the next of all, is to fail.
+#[cfg(not(feature = "idle"))]
+pub(crate) fn ask_is_refused() -> bool {
+    let number = COUNT.get();
+    COUNT.set(number + 1);
+    REFUSED.get() == Some(number)
 }
 
 /// Takes a closure so that nothing is allocated while recording is off.

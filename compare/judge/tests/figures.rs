@@ -1,22 +1,32 @@
-//! Document 01's figures of packets, window, timeout and expiry ("Figures on both sides"), from the Rust and
-//! from ours.
+//! Document 01's figures of packets, window, requests, timeout and expiry ("Figures on both sides"), from the
+//! Rust and from ours. Of what the rows of differences stand on, only a part is needed here.
+
+#[allow(dead_code)]
+#[path = "differences/came.rs"]
+mod came;
+#[allow(dead_code)]
+#[path = "differences/common.rs"]
+mod common;
+#[allow(dead_code)]
+#[path = "differences/pair.rs"]
+mod pair;
+#[allow(dead_code)]
+#[path = "differences/pumps.rs"]
+mod pumps;
 
 use std::iter::empty;
 use std::time::Duration;
 
-use oracle::calls::{self as rust, Answer, Fault, Fields};
+use came::Came;
+use common::is;
+use oracle::calls::{self as rust, Fault, Fields};
 use oracle::servers::{pending, server_with, Record};
 use oracle::tables::{update_client, Updated};
 use ours::{calls, servers, tables, Packet};
+use pair::Pair;
+use pumps::{request, token, HERE};
 
 const KEY: [u8; 32] = [3; 32];
-
-fn is<T>(answer: Answer<T>) -> T {
-    match answer {
-        Answer::Is(value) => value,
-        Answer::Panicked { .. } => panic!("the Rust panicked"),
-    }
-}
 
 /// The packet as both sides encode it, and the text that both hand to the cipher.
 fn encoded(kind: u8, a: u64, b: u64, sequence: u64) -> (Vec<u8>, Vec<u8>) {
@@ -135,7 +145,29 @@ fn a_timeout() {
     }
 }
 
-/// The request's half of this figure comes with requests.
+#[test]
+fn a_request_is_refused_in_the_second_of_its_expiry() {
+    for (secs, nanos, number) in [(99, 999_999_999, None), (100, 0, Some(12))] {
+        let mut pair = Pair::new(1);
+        pair.update(secs, nanos);
+        let came = pair.agreed(HERE, &request(&token(1), 100));
+        match number {
+            Some(number) => assert_eq!(came, Came::Refused(number)),
+            None => assert!(matches!(came, Came::ToSend(..)), "{came:?}"),
+        }
+    }
+}
+
+#[test]
+fn a_request_of_1077_bytes_is_short() {
+    let whole = request(&token(1), 100);
+    assert_eq!(whole.len(), 1078);
+    let mut pair = Pair::new(1);
+    assert_eq!(pair.agreed(HERE, &whole[..1077]), Came::Refused(9));
+    let came = pair.agreed(HERE, &whole);
+    assert!(matches!(came, Came::ToSend(..)), "{came:?}");
+}
+
 #[test]
 fn a_pending_client_stays_in_the_second_of_its_expiry() {
     let last = 999_999_999;
@@ -150,11 +182,11 @@ fn a_pending_client_stays_in_the_second_of_its_expiry() {
         let mut server = server_with(Duration::ZERO, 1, empty(), [waiting].into_iter());
         server.update(Duration::new(secs, nanos));
         assert_eq!(pending(&server).len(), usize::from(stays));
-        let (mut record, mut table) = ([0; 22], [0; tables::PLACE_WORDS]);
+        let (mut record, mut table) = ([0; 34], [0; tables::PLACE_WORDS]);
         record[servers::PENDING] = 1;
         (table[0], table[5 + 15]) = (1, 100);
         let answer = servers::update(&mut record, &mut table, [secs, nanos.into()]);
-        assert_eq!(answer, [1, 0, 0, 0, 0, 0, 0, 0, 0]);
+        assert_eq!(answer, [1, 0, 0, 0, 0, 0, 0, 0, 0, 0, 0, 0, 0, 0]);
         assert_eq!(table[0], u64::from(stays));
     }
 }

@@ -4,6 +4,7 @@
 
 pub mod calls;
 mod fields;
+pub mod lives;
 pub mod servers;
 pub mod tables;
 

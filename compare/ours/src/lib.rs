@@ -1,14 +1,17 @@
-//! Our library behind safe functions. `calls`, `tables` and `servers` have each call as it is; `packets` and
-//! `tokens` play the host as well: where a call ends in an ask, they do the cipher's work and hand the
-//! answer back.
+//! Our libraries behind safe functions. `calls`, `tables`, `servers` and `datagrams` have each call as it is;
+//! `packets`, `tokens` and `whole` play the host as well: where a call ends in an ask, they do the cipher's
+//! work and hand the answer back.
 
 pub mod calls;
+pub mod datagrams;
 mod host;
 mod packets;
+mod private;
 pub mod servers;
 pub mod sys;
 pub mod tables;
 mod tokens;
+pub mod whole;
 
 pub use host::Ask;
 pub use packets::{decode, encode, Decoded, Encoded, Read};

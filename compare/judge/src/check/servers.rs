@@ -5,7 +5,7 @@ pub mod queries;
 pub mod starts;
 pub mod updates;
 
-use ours::servers::{Answer, Record, Reply, CLOCK, STAGE};
+use ours::servers::{Answer, Record, Reply, CLOCK, STAGE, STEP};
 
 use super::{Beyond, Class, Did, Diff, Report, Verdict};
 use crate::servers::Server;
@@ -21,24 +21,48 @@ pub fn check(case: &Server) -> Report {
     }
 }
 
-/// Something in every word, so that it shows what a call leaves as it was.
+/// Something in every word, so that it shows what a call leaves as it was; but for an open ask.
 const FULL: Record = [
-    3, 4, 5, 2, 1, 71, 6, 0, 0, 72, 73, 0, 74, 75, 76, 77, 78, 79, 80, 81, 82, 83,
+    3, 4, 5, 2, 1, 71, 6, 0, 0, 72, 73, 0, 74, 75, 76, 77, 78, 79, 80, 81, 82, 83, 0, 0, 0, 0, 0,
+    0, 0, 0, 0, 0, 0, 0,
 ];
+
+/// Which words each sort of ask has of its step: place, slot, type, sequence, start or end, whether
+/// connected, three of an address, expiry or id, two of the private data's end.
+const STEPS: [&[usize]; 10] = [
+    &[],
+    &[0, 2, 3, 4, 5],
+    &[6, 7, 8, 9, 10, 11],
+    &[0, 4],
+    &[3, 4, 6, 7, 8],
+    &[3, 4, 6, 7, 8],
+    &[3, 4, 6, 7, 8],
+    &[0, 1, 3, 4],
+    &[1, 3, 4],
+    &[3, 4, 6, 7, 8, 9],
+];
+
+/// A step's words as a call leaves them: a type, a yes and an address that there is, numbers that are unlike.
+const STEP_WORDS: [u64; 12] = [84, 85, 5, 86, 87, 1, 4 << 16 | 88, 89, 0, 90, 91, 92];
 
 fn record(clock: Time, stage: u8) -> Record {
     let mut record = FULL;
     record[CLOCK..][..2].copy_from_slice(&clock.words());
     record[STAGE] = stage.into();
+    for at in STEPS[usize::from(stage)] {
+        record[STEP + at] = STEP_WORDS[*at];
+    }
     record
 }
 
 /// An answer that says no and nothing else.
 fn refused(number: u8) -> Answer {
-    [0, number.into(), 0, 0, 0, 0, 0, 0, 0]
+    let mut answer = [0; 14];
+    answer[1] = number.into();
+    answer
 }
 
-const NOTHING: Answer = [1, 0, 0, 0, 0, 0, 0, 0, 0];
+const NOTHING: Answer = [1, 0, 0, 0, 0, 0, 0, 0, 0, 0, 0, 0, 0, 0];
 
 /// What `upkeep` did, by the first two words of its answer.
 fn stepped(answer: &Answer) -> Did {

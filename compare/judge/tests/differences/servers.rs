@@ -11,7 +11,9 @@ use crate::common::panicked;
 use crate::set_up::{at, limited, set_up, Ours, LAST, NOTHING};
 
 fn refused(number: u64) -> Answer {
-    [0, number, 0, 0, 0, 0, 0, 0, 0]
+    let mut answer = [0; 14];
+    answer[1] = number;
+    answer
 }
 
 fn waiting(expiry: u64) -> Theirs {

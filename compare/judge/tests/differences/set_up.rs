@@ -4,11 +4,11 @@ use std::panic::catch_unwind;
 use std::time::Duration;
 
 use oracle::servers::{kept, NetcodeServer, ServerAuthentication, ServerConfig};
-use ours::servers::{self, Answer, Record, CHALLENGE_KEY, CLOCK, LIMIT, SLOTS};
+use ours::servers::{self, Answer, Config, Record, CHALLENGE_KEY, LIMIT, SLOTS};
 use ours::tables::{self, ENTRY_BYTES, PLACE_WORDS};
 
 pub const LAST: u64 = u64::MAX;
-pub const NOTHING: Answer = [1, 0, 0, 0, 0, 0, 0, 0, 0];
+pub const NOTHING: Answer = [1, 0, 0, 0, 0, 0, 0, 0, 0, 0, 0, 0, 0, 0];
 
 fn theirs(max_clients: usize) -> NetcodeServer {
     NetcodeServer::new(ServerConfig {
@@ -27,15 +27,22 @@ pub struct Ours {
     pub slots: Vec<u64>,
 }
 
-/// So many slots, one pending place, one token entry, these public addresses; the record has the limit and
-/// the time.
-pub fn set_up(mut record: Record, slots: usize, public: &[u64]) -> Ours {
+/// So many slots, one pending place, one token entry, these public addresses.
+pub fn set_up(config: Config, slots: usize, public: &[u64]) -> Ours {
+    let mut record = [9; 34];
     let mut slots = vec![9; PLACE_WORDS * slots];
     let (mut pending, mut entries) = ([9; PLACE_WORDS], [9; ENTRY_BYTES]);
-    let refusal = servers::set_up(&mut record, &mut slots, &mut pending, &mut entries, public);
+    let refusal = servers::set_up(
+        &mut record,
+        &config,
+        &mut slots,
+        &mut pending,
+        &mut entries,
+        public,
+    );
     if refusal != 0 {
         assert!(slots.iter().chain(&pending).all(|word| *word == 9));
-        assert_eq!((record, entries), ([0; 22], [9; ENTRY_BYTES]));
+        assert_eq!((record, entries), ([0; 34], [9; ENTRY_BYTES]));
     }
     Ours {
         refusal,
@@ -44,16 +51,22 @@ pub fn set_up(mut record: Record, slots: usize, public: &[u64]) -> Ours {
     }
 }
 
-pub fn limited(limit: u64) -> Record {
-    let mut record = [0; 22];
-    record[LIMIT] = limit;
-    record
+pub fn limited(max_clients: u64) -> Config {
+    Config {
+        clock: [0, 0],
+        max_clients,
+        protocol_id: 0,
+        secure: false,
+        connect_key: [0; 32],
+        challenge_key: [0; 32],
+    }
 }
 
-pub fn at(clock: [u64; 2]) -> Record {
-    let mut record = limited(1);
-    record[CLOCK..CLOCK + 2].copy_from_slice(&clock);
-    record
+pub fn at(clock: [u64; 2]) -> Config {
+    Config {
+        clock,
+        ..limited(1)
+    }
 }
 
 #[test]
@@ -114,8 +127,24 @@ fn row_48_a_malformed_public_address() {
 fn row_49_the_challenge_key() {
     let drawn = [theirs(1), theirs(1)].map(|server| kept(&server).challenge_key);
     assert_ne!(drawn[0], drawn[1]);
-    let mut record = limited(1);
-    record[CHALLENGE_KEY..CHALLENGE_KEY + 4].copy_from_slice(&[1, 2, 3, 4]);
-    let ours = set_up(record, 1, &[]).record;
-    assert_eq!(ours[CHALLENGE_KEY..CHALLENGE_KEY + 4], [1, 2, 3, 4]);
+    let mut config = limited(1);
+    config.challenge_key = [[1; 8], [2; 8], [3; 8], [4; 8]]
+        .concat()
+        .try_into()
+        .expect("32 bytes");
+    let ours = set_up(config, 1, &[]).record;
+    let words = [1, 2, 3, 4].map(|byte| u64::from_le_bytes([byte; 8]));
+    assert_eq!(ours[CHALLENGE_KEY..CHALLENGE_KEY + 4], words);
+}
+
+/// No row: these have no counterpart. A number that set-up refuses has no length.
+#[test]
+fn lengths_by_numbers_of_places() {
+    assert_eq!([1, 1024, 1025].map(servers::slots_words), [310, 317_440, 0]);
+    let pending = [1, 4096, 4097].map(servers::pending_words);
+    assert_eq!(pending, [310, 1_269_760, 0]);
+    let entries = [1, 2048, 2049].map(servers::entries_bytes);
+    assert_eq!(entries, [48, 98_304, 0]);
+    let addresses = [0, 1, u32::MAX as usize, 1 << 32].map(servers::addresses_words);
+    assert_eq!(addresses, [0, 3, 3 * u32::MAX as usize, 0]);
 }

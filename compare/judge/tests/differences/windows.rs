@@ -3,7 +3,7 @@
 use oracle::calls as rust;
 use ours::calls;
 
-use crate::common::{checked, is, panicked};
+use crate::common::{checked, is, mine, panicked, sealed, theirs, Came};
 
 const LAST: u64 = u64::MAX;
 
@@ -38,15 +38,21 @@ fn row_9_an_advance_past_the_range() {
 
 #[test]
 fn row_10_an_advance_by_what_is_behind() {
-    let theirs = is(rust::advance(
+    let back = is(rust::advance(
         &is(rust::advance(&rust::new_window(), 256)),
         0,
     ));
-    assert!(!is(rust::already_received(&theirs, 256)));
+    assert!(!is(rust::already_received(&back, 256)));
     let mut ours = rust::new_window();
     calls::advance_sequence(&mut ours, 256);
     calls::advance_sequence(&mut ours, 0);
     assert_eq!(calls::already_received(&ours, 256), 1);
+    // By a packet neither gets there: the window is asked before it moves.
+    let window = is(rust::advance(&rust::new_window(), 256));
+    let late = sealed(5, 1, 0, &[]);
+    let refused = (Came::Refused(6), Some(window));
+    assert_eq!(theirs(&late, Some(&window)), refused);
+    assert_eq!(mine(&late, Some(&window)), refused);
 }
 
 #[test]

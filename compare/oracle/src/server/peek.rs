@@ -11,6 +11,7 @@ use super::{
 mod clocks;
 mod entries;
 mod hosts;
+pub mod lives;
 mod servers;
 mod slots;
 

@@ -1,8 +1,28 @@
-//! The calls of `server_calls`, likewise.
+//! The calls of `netcode`, as include/netcode.h has them.
+
+/// The server's own record, an answer, what an ask tells the cipher, a query's reply, and what is kept of a
+/// token between an ask and its answer.
+pub type Record = [u64; 34];
+pub type Answer = [u64; 14];
+pub type Told = [u8; 85];
+pub type Reply = [u64; 5];
+pub type Held = [u8; 340];
 
 extern "C" {
-    pub fn pump_set_up(
-        words: *mut [u64; 22],
+    pub fn netcode_slots_words(slots: usize) -> usize;
+    pub fn netcode_pending_words(pending: usize) -> usize;
+    pub fn netcode_entries_bytes(entries: usize) -> usize;
+    pub fn netcode_addresses_words(addresses: usize) -> usize;
+
+    pub fn netcode_set_up(
+        server: *mut Record,
+        secs: u64,
+        nanos: u64,
+        max_clients: usize,
+        protocol_id: u64,
+        secure: u8,
+        connect_key: *const [u8; 32],
+        challenge_key: *const [u8; 32],
         slots: *mut u64,
         slots_len: usize,
         pending: *mut u64,
@@ -10,76 +30,180 @@ extern "C" {
         entries: *mut u8,
         entries_len: usize,
         public_addresses: *const u64,
-        public_addresses_len: usize,
+        public_len: usize,
     ) -> u8;
-    pub fn pump_update(
-        words: *mut [u64; 22],
+    pub fn netcode_update(
+        server: *mut Record,
         pending: *mut u64,
         pending_len: usize,
         secs: u64,
         nanos: u64,
-        answer: *mut [u64; 9],
+        answer: *mut Answer,
     );
-    pub fn pump_set_max_clients(words: *mut [u64; 22], max_clients: usize, answer: *mut [u64; 9]);
+    pub fn netcode_set_max_clients(server: *mut Record, max_clients: usize, answer: *mut Answer);
 
-    pub fn pump_server_itself(words: *const [u64; 22], out: *mut [u64; 3]);
-    pub fn pump_connected_clients(
-        words: *const [u64; 22],
-        slots: *const u64,
+    pub fn netcode_process_packet(
+        server: *mut Record,
+        kind: u8,
+        port: u16,
+        ip: *const [u8; 16],
+        slots: *mut u64,
         slots_len: usize,
-        reply: *mut [u64; 5],
+        pending: *mut u64,
+        pending_len: usize,
+        out: *const u8,
+        out_len: usize,
+        datagram: *const u8,
+        datagram_len: usize,
+        answer: *mut Answer,
+        ask: *mut Told,
     );
-    pub fn pump_is_client_connected(
-        words: *const [u64; 22],
-        slots: *const u64,
+    pub fn netcode_answer_open(
+        server: *mut Record,
+        granted: u8,
+        slots: *mut u64,
         slots_len: usize,
+        pending: *mut u64,
+        pending_len: usize,
+        held: *mut Held,
+        out: *mut u8,
+        out_len: usize,
+        datagram: *const u8,
+        datagram_len: usize,
+        answer: *mut Answer,
+        ask: *mut Told,
+    );
+    pub fn netcode_answer_token(
+        server: *mut Record,
+        granted: u8,
         client_id: u64,
-        reply: *mut [u64; 5],
-    );
-    pub fn pump_client_addr(
-        words: *const [u64; 22],
+        timeout_seconds: u32,
+        server_to_client_key: *const [u8; 32],
+        client_to_server_key: *const [u8; 32],
+        user_data: *const [u8; 256],
+        server_addresses: *const u64,
+        addresses_len: usize,
         slots: *const u64,
         slots_len: usize,
-        client_id: u64,
-        reply: *mut [u64; 5],
-    );
-    pub fn pump_time_since_last_received_packet(
-        words: *const [u64; 22],
-        slots: *const u64,
-        slots_len: usize,
-        client_id: u64,
-        reply: *mut [u64; 5],
-    );
-    pub fn pump_user_data(
-        words: *const [u64; 22],
-        slots: *const u64,
-        slots_len: usize,
-        client_id: u64,
-        out: *mut [u8; 256],
-        reply: *mut [u64; 5],
-    );
-    pub fn pump_clients_id(
-        words: *const [u64; 22],
-        slots: *const u64,
-        slots_len: usize,
-        list: *mut u64,
-        list_len: usize,
-        reply: *mut [u64; 5],
-    );
-    pub fn pump_clients_slot(
-        words: *const [u64; 22],
-        slots: *const u64,
-        slots_len: usize,
-        list: *mut u64,
-        list_len: usize,
-        reply: *mut [u64; 5],
-    );
-    pub fn pump_addresses(
-        words: *const [u64; 22],
+        pending: *mut u64,
+        pending_len: usize,
+        entries: *mut u8,
+        entries_len: usize,
         public_addresses: *const u64,
-        public_addresses_len: usize,
+        public_len: usize,
+        held: *mut Held,
+        out: *mut u8,
+        out_len: usize,
+        datagram: *const u8,
+        datagram_len: usize,
+        answer: *mut Answer,
+        ask: *mut Told,
+    );
+    pub fn netcode_answer_seal(
+        server: *mut Record,
+        granted: u8,
+        slots: *mut u64,
+        slots_len: usize,
+        pending: *mut u64,
+        pending_len: usize,
+        held: *const Held,
+        out: *const u8,
+        out_len: usize,
+        answer: *mut Answer,
+        ask: *mut Told,
+    );
+
+    pub fn netcode_generate_payload_packet(
+        server: *mut Record,
+        client_id: u64,
+        payload: *const u8,
+        payload_len: usize,
+        slots: *const u64,
+        slots_len: usize,
+        out: *mut u8,
+        out_len: usize,
+        answer: *mut Answer,
+        ask: *mut Told,
+    );
+    pub fn netcode_update_client(
+        server: *mut Record,
+        client_id: u64,
+        slots: *mut u64,
+        slots_len: usize,
+        out: *mut u8,
+        out_len: usize,
+        answer: *mut Answer,
+        ask: *mut Told,
+    );
+    pub fn netcode_disconnect(
+        server: *mut Record,
+        client_id: u64,
+        slots: *mut u64,
+        slots_len: usize,
+        out: *mut u8,
+        out_len: usize,
+        answer: *mut Answer,
+        ask: *mut Told,
+    );
+
+    pub fn netcode_server_itself(server: *const Record, itself: *mut [u64; 3]);
+    pub fn netcode_connected_clients(
+        server: *const Record,
+        slots: *const u64,
+        slots_len: usize,
+        reply: *mut Reply,
+    );
+    pub fn netcode_is_client_connected(
+        server: *const Record,
+        slots: *const u64,
+        slots_len: usize,
+        client_id: u64,
+        reply: *mut Reply,
+    );
+    pub fn netcode_client_addr(
+        server: *const Record,
+        slots: *const u64,
+        slots_len: usize,
+        client_id: u64,
+        reply: *mut Reply,
+    );
+    pub fn netcode_time_since_last_received_packet(
+        server: *const Record,
+        slots: *const u64,
+        slots_len: usize,
+        client_id: u64,
+        reply: *mut Reply,
+    );
+    pub fn netcode_user_data(
+        server: *const Record,
+        slots: *const u64,
+        slots_len: usize,
+        client_id: u64,
+        user_data: *mut [u8; 256],
+        reply: *mut Reply,
+    );
+    pub fn netcode_clients_id(
+        server: *const Record,
+        slots: *const u64,
+        slots_len: usize,
         list: *mut u64,
         list_len: usize,
-        reply: *mut [u64; 5],
+        reply: *mut Reply,
+    );
+    pub fn netcode_clients_slot(
+        server: *const Record,
+        slots: *const u64,
+        slots_len: usize,
+        list: *mut u64,
+        list_len: usize,
+        reply: *mut Reply,
+    );
+    pub fn netcode_addresses(
+        server: *const Record,
+        public_addresses: *const u64,
+        public_len: usize,
+        list: *mut u64,
+        list_len: usize,
+        reply: *mut Reply,
     );
 }

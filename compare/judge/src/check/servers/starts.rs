@@ -2,10 +2,10 @@
 
 use oracle::servers::{self as rust, caught, Answer, NetcodeServer};
 use oracle::servers::{ServerAuthentication, ServerConfig};
-use ours::servers::{self as mine, Record};
+use ours::servers::{self as mine, Config, Record};
 use ours::tables::{ENTRY_BYTES, PLACE_WORDS};
 
-use super::{report, Class, Did, Diff, Report, FULL};
+use super::{report, Class, Did, Diff, Report};
 use crate::servers::{Lack, Start};
 use crate::tables::{address_list, given, socket, Address, Time};
 
@@ -21,39 +21,68 @@ pub const fn lacking(lack: Lack) -> u8 {
     LACKS + lack as u8
 }
 
-/// Fills the tables before a set-up.
+/// Fills the tables and the record before a set-up, which must take nothing from there.
 const STALE: u64 = 0xAAAA_AAAA_AAAA_AAAA;
+const STALE_RECORD: Record = [STALE; 34];
 const CONNECT_KEY: [u8; 32] = *b"a connect key, no two parts same";
 const CHALLENGE_KEY: [u8; 32] = *b"and a challenge key, unlike that";
+
+/// The tables that a set-up is lent.
+struct Lent {
+    slots: Vec<u64>,
+    pending: Vec<u64>,
+    entries: Vec<u8>,
+}
+
+impl Lent {
+    fn stale(case: &Start) -> Self {
+        Self {
+            slots: vec![STALE; case.slots],
+            pending: vec![STALE; case.pending],
+            entries: vec![STALE as u8; case.entries],
+        }
+    }
+
+    fn set_up(&mut self, config: &Config, record: &mut Record, public: &[u64]) -> u8 {
+        let Self {
+            slots,
+            pending,
+            entries,
+        } = self;
+        mine::set_up(record, config, slots, pending, entries, public)
+    }
+
+    /// All places are empty after a set-up, and after a refusal all is as it was.
+    fn compare(&self, set: bool, diff: &mut Diff) {
+        let marked = |len: usize, place: usize| if set { len / place } else { 0 };
+        let n = marked(self.slots.len(), PLACE_WORDS);
+        emptied("slots", n, STALE, &self.slots, diff);
+        let m = marked(self.pending.len(), PLACE_WORDS);
+        emptied("pending", m, STALE, &self.pending, diff);
+        let k = marked(self.entries.len(), ENTRY_BYTES);
+        emptied("entries", k, STALE as u8, &self.entries, diff);
+    }
+}
 
 pub fn check(case: &Start) -> Report {
     let lacks = case.lacks();
     let mut diff = Diff::default();
     let theirs = theirs(case);
-    let mut record = configuration(case);
-    let mut slots = vec![STALE; case.slots];
-    let mut pending = vec![STALE; case.pending];
-    let mut entries = vec![STALE as u8; case.entries];
     let mut public = address_list(&case.public);
     public.resize(public.len() + case.over, 0);
     let listed = public.clone();
-    let number = mine::set_up(&mut record, &mut slots, &mut pending, &mut entries, &public);
+    let (mut record, mut lent) = (STALE_RECORD, Lent::stale(case));
+    let number = lent.set_up(&configuration(case), &mut record, &public);
     diff.table("the public addresses after it", &listed, &public);
     let refusal = lacks.first().map_or(0, |lack| lack.number());
     diff.number("refusal", refusal.into(), number.into());
     let set = lacks.is_empty();
-    let marked = |len: usize, place: usize| if set { len / place } else { 0 };
-    let n = marked(case.slots, PLACE_WORDS);
-    emptied("slots", n, STALE, &slots, &mut diff);
-    let m = marked(case.pending, PLACE_WORDS);
-    emptied("pending", m, STALE, &pending, &mut diff);
-    let k = marked(case.entries, ENTRY_BYTES);
-    emptied("entries", k, STALE as u8, &entries, &mut diff);
+    lent.compare(set, &mut diff);
     match (&theirs, set) {
-        (_, false) => diff.words("the record beside a refusal", &[0; 22], &record),
+        (_, false) => diff.words("the record beside a refusal", &[0; 34], &record),
         (Some(Answer::Is(server)), true) => {
             compare(case, server, &record, &mut diff);
-            asked(server, &record, &slots, &public, &mut diff);
+            asked(server, &record, &lent.slots, &public, &mut diff);
         }
         _ => diff.fail("the Rust has no such server, or panicked"),
     }
@@ -75,17 +104,15 @@ fn rust_did(theirs: &Option<Answer<NetcodeServer>>) -> Did {
     }
 }
 
-/// The configuration, and in the record's other words what set-up must not take from there.
-fn configuration(case: &Start) -> Record {
-    let mut record = FULL;
-    record[mine::SECURE] = case.secure.into();
-    record[mine::PROTOCOL] = case.protocol;
-    record[mine::LIMIT] = case.limit;
-    record[mine::CLOCK..][..2].copy_from_slice(&case.clock.words());
-    record[mine::STAGE] = 3;
-    record[mine::CONNECT_KEY..][..4].copy_from_slice(&key_words(&CONNECT_KEY));
-    record[mine::CHALLENGE_KEY..][..4].copy_from_slice(&key_words(&CHALLENGE_KEY));
-    record
+fn configuration(case: &Start) -> Config {
+    Config {
+        clock: case.clock.words(),
+        max_clients: case.limit,
+        protocol_id: case.protocol,
+        secure: case.secure,
+        connect_key: CONNECT_KEY,
+        challenge_key: CHALLENGE_KEY,
+    }
 }
 
 fn key_words(key: &[u8; 32]) -> [u64; 4] {
@@ -135,7 +162,7 @@ fn emptied<T: Copy + Into<u64> + PartialEq + From<u8>>(
 fn compare(case: &Start, server: &NetcodeServer, record: &Record, diff: &mut Diff) {
     let kept = rust::kept(server);
     let clock = Time::from(server.current_time());
-    let mut expected = [0; 22];
+    let mut expected = [0; 34];
     expected[mine::SLOTS] = (case.slots / PLACE_WORDS) as u64;
     expected[mine::PENDING] = (case.pending / PLACE_WORDS) as u64;
     expected[mine::ENTRIES] = (case.entries / ENTRY_BYTES) as u64;

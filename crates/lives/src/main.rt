@@ -1,0 +1,169 @@
+// Replays whole lives of servers, which stand in standard input, a call to a line, with what the Rust's server came to: netcode's
+// functions must come to the same, in every answer, ask, packet and table. What reads tokens and compares texts promises an equation
+// (`text`); the rest is safe and ends, and what it is worth is run.
+use report::COUNTS;
+use say::ROOM;
+
+mod asking;
+mod clients;
+mod datagrams;
+mod digest;
+mod judge;
+mod kinds;
+mod lines;
+mod report;
+mod say;
+mod standing;
+mod text;
+mod told;
+mod turn;
+
+// Of the tables as much is lent as the last set-up was given; nothing is said where the line is no call.
+fn lend(
+    letter: u8,
+    left: &[u8],
+    server: &mut [u64; 34],
+    slots: &mut [u64],
+    pending: &mut [u64],
+    entries: &mut [u8],
+    public: &[u64; 12],
+    held: &mut [u8; 340],
+    out: &mut [u8; 1400],
+    datagram: &mut [u8; 2048],
+    sizes: &mut [usize; 5],
+    said: &mut [u8; ROOM],
+) -> usize {
+    if letter == b' ' {
+        return 0;
+    }
+    let n = text::least(sizes[0], slots.len());
+    let m = text::least(sizes[1], pending.len());
+    let k = text::least(sizes[2], entries.len());
+    turn::take(
+        letter,
+        left,
+        server,
+        &mut slots[0..n],
+        &mut pending[0..m],
+        &mut entries[0..k],
+        standing::first(public, sizes[3]),
+        held,
+        out,
+        datagram,
+        sizes,
+        said,
+    )
+}
+
+// The line without its end; what has none is no call.
+fn content(line: &[u8; 16384], n: usize) -> &[u8] {
+    if n == 0 {
+        return bodies::field(line, 0, 0, 0);
+    }
+    if n > 16384 {
+        return bodies::field(line, 0, 0, 0);
+    }
+    if line[n - 1] == b'\n' {
+        return bodies::field(line, 0, 0, n - 1);
+    }
+    bodies::field(line, 0, 0, 0)
+}
+
+// What a call is given, its sign with it, and what stands right of the sign.
+fn left(line: &[u8]) -> &[u8] {
+    bodies::field(line, 0, 0, text::after_sign(line))
+}
+
+fn right(line: &[u8]) -> &[u8] {
+    bodies::field(line, text::after_sign(line), 0, line.len())
+}
+
+// The line's letter, once it is counted and, of a set-up, the tables have their sizes.
+fn begin(
+    line: &[u8],
+    sizes: &mut [usize; 5],
+    public: &mut [u64; 12],
+    counts: &mut [u64; COUNTS],
+) -> u8 {
+    let letter = kinds::letter(left(line));
+    report::count_line(counts, letter);
+    standing::resize(letter, left(line), sizes, public);
+    letter
+}
+
+// A line without its end: the call, and whether it came to what stands right of the sign.
+fn take(
+    line: &[u8],
+    server: &mut [u64; 34],
+    slots: &mut [u64; 2480],
+    pending: &mut [u64; 1240],
+    entries: &mut [u8; 98304],
+    public: &mut [u64; 12],
+    held: &mut [u8; 340],
+    out: &mut [u8; 1400],
+    datagram: &mut [u8; 2048],
+    sizes: &mut [usize; 5],
+    said: &mut [u8; ROOM],
+    counts: &mut [u64; COUNTS],
+) {
+    let letter = begin(line, sizes, public, counts);
+    let n = lend(
+        letter,
+        left(line),
+        server,
+        slots,
+        pending,
+        entries,
+        public,
+        held,
+        out,
+        datagram,
+        sizes,
+        said,
+    );
+    judge::compare(letter, right(line), said, n, counts);
+}
+
+// A proved loop has to end, and nothing says that the input does: no run uses its turns up.
+fn replay_all() -> [u64; COUNTS] {
+    let mut counts = [0u64; COUNTS];
+    let mut space = io::large_buffer();
+    let mut window = [0usize; 2];
+    let mut line = [0u8; 16384];
+    let mut server = [0u64; 34];
+    let mut slots = [0u64; 2480];
+    let mut pending = [0u64; 1240];
+    let mut entries = [0u8; 98304];
+    let mut public = [0u64; 12];
+    let mut held = [0u8; 340];
+    let mut out = [0u8; 1400];
+    let mut datagram = [0u8; 2048];
+    let mut sizes = [0usize; 5];
+    let mut said = [0u8; 4096];
+    for _ in 0..u64::MAX {
+        let n = lines::next(&mut space, &mut window, &mut line);
+        if n == 0 {
+            return counts;
+        }
+        take(
+            content(&line, n),
+            &mut server,
+            &mut slots,
+            &mut pending,
+            &mut entries,
+            &mut public,
+            &mut held,
+            &mut out,
+            &mut datagram,
+            &mut sizes,
+            &mut said,
+            &mut counts,
+        );
+    }
+    counts
+}
+
+fn main() {
+    let counts = replay_all();
+    report::table(&counts);
+}

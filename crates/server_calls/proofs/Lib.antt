@@ -1,3 +1,0 @@
-pub mod Told
-pub mod Back
-pub mod Determined
