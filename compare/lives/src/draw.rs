@@ -85,6 +85,7 @@ impl World {
             None if self.spent_for == 1 => self.low_counters(),
             None => self.call(server),
         };
+        let call = upkeep::short_of_the_last(server, call);
         let no = self.rng.one_in(14).then(|| self.rng.below(4));
         let misuse = self.rng.one_in(if self.mood.is_small() { 40 } else { 20 });
         let tight = !self.mood.is_small() && self.rng.one_in(4);

@@ -8,9 +8,10 @@ use mathlib.Core.List.{List, [], _∷_}
 use lib.ListN.{length, getD}
 use lib.Dec.{eqb}
 use Rattle.serialize.specs.Choice.{pick}
-use Rattle.serialize.specs.Runs.{part, splice}
-use Rattle.serialize.specs.Le.{bytesOf}
-use Rattle.serialize.proofs.Lists.{length-part, getD-part, length-splice, getD-splice-in, getD-splice-other, part-splice-before, part-splice-after}
+use Rattle.serialize.specs.Runs.{part, splice, Below}
+use Rattle.serialize.specs.Le.{words, bytesOf}
+use Rattle.serialize.proofs.Lists.{length-part, getD-part, length-splice, getD-splice-in, getD-splice-other, part-whole, part-splice-in, part-splice-before, part-splice-after}
+use Rattle.serialize.proofs.Packed.{length-words, bytesOf-words}
 use Rattle.times.specs.Times.{time}
 use Rattle.addresses.specs.declared.Address.{Address}
 use Rattle.addresses.specs.Addresses.{address, ofWords, firstWord}
@@ -23,7 +24,7 @@ use Rattle.server.specs.declared.Stage.{Stage}
 use Rattle.server.specs.declared.Stage.the-variants.{Idle, Packet, Token, Challenge, Seal}
 use Rattle.server.specs.declared.Goal.{Goal}
 use Rattle.server.specs.declared.Goal.the-variants.{Denied, ChallengeToken, ChallengePacket, Connecting, Sending, Ending}
-use Rattle.netcode.specs.Laid.{kindIn, goalIn, stageIn, goalWords, stageWords, setUpIn, recordIn, moving, recordWords}
+use Rattle.netcode.specs.Laid.{kindIn, goalIn, stageIn, goalWords, stageWords, setUpIn, recordIn, moving, recordWords, standing, wholeWords}
 
 -- ---- the step's numbers, as they are laid and read
 
@@ -198,3 +199,69 @@ module _ (w : List ℕ) (s : NetcodeServer) (long : length w ≡ 34) where
   record-back fixed narrow =
       simp
       (set-up-back, sym fixed, low 0 (omega arith), low 1 (omega arith), low 2 (omega arith), low 3 (omega arith), low 4 (omega arith), low 6 (omega arith), low 7 (omega arith), stage-back (recordWords w s) (s .ask .stage) narrow holds)
+
+-- ---- the whole record, as set-up lays it
+
+-- a key as keys are
+pub record IsKey (key : List ℕ) : Type 0 where
+  pub long : length key ≡ 32
+  pub bytes : Below 256 key
+
+key-back : (key : List ℕ) → IsKey key → bytesOf (words 4 key) ≡ key
+key-back key is = bytesOf-words 4 key (is .bytes) (omega (arith, is .long)) ∙ part-whole key 32 (is .long)
+
+module _ (w : List ℕ) (s : NetcodeServer) (long : length w ≡ 34) (connect : IsKey (s .set .«connect_key»)) (challenge : IsKey (s .set .«challenge_key»)) where
+  abbrev one : List ℕ
+  one = splice w 0 (standing (s .set))
+
+  abbrev two : List ℕ
+  two = splice one 14 (words 4 (s .set .«connect_key»))
+
+  abbrev three : List ℕ
+  three = splice two 18 (words 4 (s .set .«challenge_key»))
+
+  four : (key : List ℕ) → length (words 4 key) ≡ 4
+  four key = length-words 4 key
+
+  long-one : length one ≡ 34
+  long-one = length-splice w 0 (standing (s .set)) (omega (arith, long)) ∙ long
+
+  long-two : length two ≡ 34
+  long-two = length-splice one 14 (words 4 (s .set .«connect_key»)) (omega (arith, long-one, four (s .set .«connect_key»))) ∙ long-one
+
+  long-three : length three ≡ 34
+  long-three = length-splice two 18 (words 4 (s .set .«challenge_key»)) (omega (arith, long-two, four (s .set .«challenge_key»))) ∙ long-two
+
+  stands : (j : ℕ) → j < 6 → getD three j 0 ≡ getD (standing (s .set)) j 0
+  stands j h =
+      let z : j ≡ 0 + j = omega arith in
+      getD-splice-other two 18 (words 4 (s .set .«challenge_key»)) j (omega (arith, long-two, four (s .set .«challenge_key»))) (λ (q : ℕ) l e. absurd (omega (arith, h, e)))
+      ∙ getD-splice-other one 14 (words 4 (s .set .«connect_key»)) j (omega (arith, long-one, four (s .set .«connect_key»))) (λ (q : ℕ) l e. absurd (omega (arith, h, e)))
+      ∙ ap (λ (k : ℕ). getD one k 0) z
+      ∙ getD-splice-in w 0 (standing (s .set)) j (omega (arith, long)) h
+
+  connect-back : bytesAt three 14 4 ≡ s .set .«connect_key»
+  connect-back =
+      ap bytesOf
+      (part-splice-before two 18 (words 4 (s .set .«challenge_key»)) 14 4 (omega (arith, long-two, four (s .set .«challenge_key»))) (omega arith)
+      ∙ part-splice-in one 14 (words 4 (s .set .«connect_key»)) 0 4 (omega (arith, long-one, four (s .set .«connect_key»))) (omega (arith, four (s .set .«connect_key»)))
+      ∙ part-whole (words 4 (s .set .«connect_key»)) 4 (four (s .set .«connect_key»)))
+      ∙ key-back (s .set .«connect_key») connect
+
+  challenge-back : bytesAt three 18 4 ≡ s .set .«challenge_key»
+  challenge-back =
+      ap bytesOf
+      (part-splice-in two 18 (words 4 (s .set .«challenge_key»)) 0 4 (omega (arith, long-two, four (s .set .«challenge_key»))) (omega (arith, four (s .set .«challenge_key»)))
+      ∙ part-whole (words 4 (s .set .«challenge_key»)) 4 (four (s .set .«challenge_key»)))
+      ∙ key-back (s .set .«challenge_key») challenge
+
+  fixed-back : s .set ≡ setUpIn three
+  unfolding setUpIn
+  fixed-back =
+      sym
+      (simp
+      (stands 0 (omega arith), stands 1 (omega arith), stands 2 (omega arith), stands 3 (omega arith), stands 4 (omega arith), stands 5 (omega arith), bit-back (s .set .secure), connect-back, challenge-back))
+
+  pub whole-back : NarrowStage (s .ask .stage) → recordIn (wholeWords w s) ≡ s
+  unfolding wholeWords
+  whole-back narrow = record-back three s long-three fixed-back narrow

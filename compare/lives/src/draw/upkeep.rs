@@ -1,5 +1,7 @@
 //! Steps of the clock, to its edges and between, limits, and payloads to send.
 
+use std::time::Duration;
+
 use oracle::lives::{self, NetcodeServer};
 
 use super::{Mood, World};
@@ -12,6 +14,19 @@ fn step(nanos: u128) -> Call {
     Call::Update {
         secs: (nanos / SECOND) as u64,
         nanos: (nanos % SECOND) as u64,
+    }
+}
+
+/// A step to the clock's last nanosecond is none: at that time no sent time is a nanosecond short of the interval and within the Rust's
+/// sums, so that nothing can stand in for one that is too late.
+pub fn short_of_the_last(server: &NetcodeServer, call: Call) -> Call {
+    let Call::Update { secs, nanos } = call else {
+        return call;
+    };
+    let duration = Duration::from_secs(secs).checked_add(Duration::from_nanos(nanos));
+    match duration.and_then(|duration| server.current_time().checked_add(duration)) {
+        Some(Duration::MAX) => step(0),
+        _ => call,
     }
 }
 

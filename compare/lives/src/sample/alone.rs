@@ -86,22 +86,20 @@ impl Sample {
             let given = nobody.replace(" -", &format!(" {malformed}"));
             self.alone(&given, 18, shadow);
         }
+        let all = [Kind::Open, Kind::Token, Kind::Seal].map(|kind| yes_to(kind, &nobody));
+        let slots = ours.lent.slots;
+        self.short(('s', slots - PLACE_WORDS, slots), &all, 23, shadow);
         self.short_answers(kind, yes_to(kind, &nobody), &ours.lent, shadow);
     }
 
-    /// Answers that are lent less than the ask was: of the tables 23, of the rest 18.
+    /// Answers that are lent less than the ask was: of the other tables 23, of the rest 18.
     fn short_answers(&mut self, kind: Kind, given: &str, lent: &Lent, shadow: &Shadow) {
-        let (slots, pending) = (lent.slots, lent.pending);
-        let mut tables = vec![
-            ('s', slots - PLACE_WORDS, slots),
-            ('p', pending - 1, pending),
-        ];
+        self.short(('p', lent.pending - 1, lent.pending), &[given], 23, shadow);
         if kind == Kind::Token {
-            tables.push(('e', lent.entries - ENTRY_BYTES, lent.entries));
-            tables.push(('a', lent.public - 3, lent.public));
-        }
-        for table in tables {
-            self.short(table, &[given], 23, shadow);
+            let (entries, public) = (lent.entries, lent.public);
+            let [fewer, others] = [entries - ENTRY_BYTES, public - 3];
+            self.short(('e', fewer, entries), &[given], 23, shadow);
+            self.short(('a', others, public), &[given], 23, shadow);
         }
         self.short(('o', OUT - 1, OUT), &[given], 18, shadow);
         if kind != Kind::Seal {
