@@ -138,7 +138,10 @@ pub fn counter_of(pre: &NetcodeServer, call: &Call, ask: &Ask) -> &'static str {
         Call::Datagram { .. } if additional.last().is_some_and(|prefix| prefix & 15 == 4) => {
             "a pending client's counter"
         }
-        Call::Datagram { .. } => "the global counter",
+        Call::Datagram { .. } if additional.last().is_some_and(|prefix| prefix & 15 == 1) => {
+            "the global counter, for a denied"
+        }
+        Call::Datagram { .. } => "the global counter, for a challenge",
         _ => "a slot's counter",
     }
 }

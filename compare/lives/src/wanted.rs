@@ -95,7 +95,8 @@ pub const WANTED: &[&str] = &[
     "queries: refusal 14",
     "queries: refusal 23",
     // Whose counter is spent.
-    "15: the global counter",
+    "15: the global counter, for a challenge",
+    "15: the global counter, for a denied",
     "15: the challenge counter",
     "15: a pending client's counter",
     "15: a slot's counter",

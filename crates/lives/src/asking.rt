@@ -1,6 +1,7 @@
 // All queries about an id, told as the sample tells them.
 use crate::say;
 use crate::say::ROOM;
+use crate::text;
 
 // Cases of a reply.
 const NOTHING: u64 = 1;
@@ -102,17 +103,31 @@ fn listed(said: &mut [u8; ROOM], at: usize, list: &[u64; 8], reply: &[u64; 5]) -
     say::refused(said, at, reply[1])
 }
 
-fn clients_id(said: &mut [u8; ROOM], at: usize, server: &[u64; 34], slots: &[u64]) -> usize {
+fn clients_id(
+    said: &mut [u8; ROOM],
+    at: usize,
+    server: &[u64; 34],
+    slots: &[u64],
+    room: usize,
+) -> usize {
     let mut reply = [0u64; 5];
     let mut list = [0u64; 8];
-    netcode::netcode_clients_id(server, slots, &mut list, &mut reply);
+    let n = text::least(room, 8);
+    netcode::netcode_clients_id(server, slots, &mut list[0..n], &mut reply);
     listed(said, at, &list, &reply)
 }
 
-fn clients_slot(said: &mut [u8; ROOM], at: usize, server: &[u64; 34], slots: &[u64]) -> usize {
+fn clients_slot(
+    said: &mut [u8; ROOM],
+    at: usize,
+    server: &[u64; 34],
+    slots: &[u64],
+    room: usize,
+) -> usize {
     let mut reply = [0u64; 5];
     let mut list = [0u64; 8];
-    netcode::netcode_clients_slot(server, slots, &mut list, &mut reply);
+    let n = text::least(room, 8);
+    netcode::netcode_clients_slot(server, slots, &mut list[0..n], &mut reply);
     listed(said, at, &list, &reply)
 }
 
@@ -124,10 +139,17 @@ fn client(said: &mut [u8; ROOM], at: usize, server: &[u64; 34], slots: &[u64], i
     user_data(said, since, server, slots, id)
 }
 
-pub(crate) fn tell(said: &mut [u8; ROOM], server: &[u64; 34], slots: &[u64], id: u64) -> usize {
+// With lists that have so much room.
+pub(crate) fn tell(
+    said: &mut [u8; ROOM],
+    server: &[u64; 34],
+    slots: &[u64],
+    id: u64,
+    room: usize,
+) -> usize {
     let limit = itself(said, server);
     let count = connected_clients(said, limit, server, slots);
     let user = client(said, count, server, slots, id);
-    let ids = clients_id(said, user, server, slots);
-    clients_slot(said, ids, server, slots)
+    let ids = clients_id(said, user, server, slots, room);
+    clients_slot(said, ids, server, slots, room)
 }

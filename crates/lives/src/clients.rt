@@ -5,7 +5,7 @@ pub(crate) fn generate_payload_packet(
     left: &[u8],
     server: &mut [u64; 34],
     slots: &[u64],
-    out: &mut [u8; 1400],
+    out: &mut [u8],
     answer: &mut [u64; 14],
     ask: &mut [u8; 85],
 ) {
@@ -26,7 +26,7 @@ pub(crate) fn update_client(
     left: &[u8],
     server: &mut [u64; 34],
     slots: &mut [u64],
-    out: &mut [u8; 1400],
+    out: &mut [u8],
     answer: &mut [u64; 14],
     ask: &mut [u8; 85],
 ) {
@@ -37,7 +37,7 @@ pub(crate) fn disconnect(
     left: &[u8],
     server: &mut [u64; 34],
     slots: &mut [u64],
-    out: &mut [u8; 1400],
+    out: &mut [u8],
     answer: &mut [u64; 14],
     ask: &mut [u8; 85],
 ) {

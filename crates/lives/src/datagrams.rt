@@ -1,15 +1,17 @@
 // A datagram, and the host's answers, given what a line says. The host's own work is stored: what it left in the datagram or the output.
 use crate::standing;
+use crate::standing::HEARD;
+use crate::standing::SIZES;
 use crate::text;
 
 // The token's bytes take the datagram's place, and its length.
-fn put(left: &[u8], which: usize, datagram: &mut [u8; 2048], sizes: &mut [usize; 5]) {
+fn put(left: &[u8], which: usize, datagram: &mut [u8; 2048], sizes: &mut [usize; SIZES]) {
     let n = text::bytes(left, which, datagram);
-    sizes[4] = n;
+    sizes[HEARD] = n;
 }
 
 // What came, or what the host left, unless it left all as it stands.
-pub(crate) fn keep(letter: u8, left: &[u8], datagram: &mut [u8; 2048], sizes: &mut [usize; 5]) {
+pub(crate) fn keep(letter: u8, left: &[u8], datagram: &mut [u8; 2048], sizes: &mut [usize; SIZES]) {
     match letter {
         b'P' => put(left, 4, datagram, sizes),
         b'O' => {
@@ -36,7 +38,7 @@ pub(crate) fn process_packet(
     server: &mut [u64; 34],
     slots: &mut [u64],
     pending: &mut [u64],
-    out: &[u8; 1400],
+    out: &[u8],
     datagram: &[u8],
     answer: &mut [u64; 14],
     ask: &mut [u8; 85],
@@ -62,7 +64,7 @@ pub(crate) fn answer_open(
     slots: &mut [u64],
     pending: &mut [u64],
     held: &mut [u8; 340],
-    out: &mut [u8; 1400],
+    out: &mut [u8],
     datagram: &[u8],
     answer: &mut [u64; 14],
     ask: &mut [u8; 85],
@@ -102,7 +104,7 @@ pub(crate) fn answer_token(
     entries: &mut [u8],
     public: &[u64],
     held: &mut [u8; 340],
-    out: &mut [u8; 1400],
+    out: &mut [u8],
     datagram: &[u8],
     answer: &mut [u64; 14],
     ask: &mut [u8; 85],
@@ -139,7 +141,7 @@ pub(crate) fn answer_seal(
     slots: &mut [u64],
     pending: &mut [u64],
     held: &[u8; 340],
-    out: &mut [u8; 1400],
+    out: &mut [u8],
     answer: &mut [u64; 14],
     ask: &mut [u8; 85],
 ) {

@@ -1,5 +1,6 @@
 // What was said is held to what the line expects. A text that is the same is then changed in one character, which must be noticed: a
 // comparison that can't fail would show nothing.
+use crate::kinds;
 use crate::report;
 use crate::report::COUNTS;
 use crate::say::ROOM;
@@ -68,6 +69,15 @@ fn count_same(right: &[u8], said: &mut [u8; ROOM], n: usize, counts: &mut [u64; 
     report::count_noticed(counts);
 }
 
+// A line that makes no call is not to say what comes of it.
+fn settle(right: &[u8], counts: &mut [u64; COUNTS]) {
+    if right.len() == 0 {
+        report::count_same(counts);
+        return;
+    }
+    pass(counts);
+}
+
 // The first n characters of said are what came out. What differs is told of the first lines alone.
 pub(crate) fn compare(
     letter: u8,
@@ -78,6 +88,10 @@ pub(crate) fn compare(
 ) {
     if letter == b' ' {
         pass(counts);
+        return;
+    }
+    if kinds::is_setting(letter) {
+        settle(right, counts);
         return;
     }
     report::count_answer(counts, letter, bodies::field(said, 0, 0, n));

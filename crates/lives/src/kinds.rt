@@ -1,4 +1,4 @@
-// The shape of what a call is given: its letter, as many tokens as it has, each of its kind, and the sign.
+// The shape of what a line gives: its letter, as many tokens as it has, each of its kind, and the sign.
 use crate::text;
 
 fn is_number(word: &[u8]) -> bool {
@@ -56,7 +56,7 @@ fn is_addresses_to(word: &[u8], most: usize) -> bool {
     is_bytes_to(word, 8192)
 }
 
-// Kinds by a letter. Of numbers: any, of 32, 16 and 8 bits, yes or no, the places of the tables that there are here.
+// Kinds by a letter. Of numbers: any, of 32, 16 and 8 bits, yes or no, the places of the tables that there are here, a token entry.
 fn is_number_of(word: &[u8], kind: u8) -> bool {
     match kind {
         b'n' => is_number(word),
@@ -67,11 +67,37 @@ fn is_number_of(word: &[u8], kind: u8) -> bool {
         b's' => is_number_to(word, 8),
         b'p' => is_number_to(word, 4),
         b'e' => is_number_to(word, 2048),
+        b'i' => is_number_to(word, 2047),
         _ => false,
     }
 }
 
-// Of bytes, by a capital: an address, a key, user data, a datagram or payload, a packet, public addresses, a token's; and the sign.
+// The record, the slots or pending: what has words.
+fn is_table(word: &[u8]) -> bool {
+    match text::first(word) {
+        b'r' => word.len() == 1,
+        b's' => word.len() == 1,
+        b'p' => word.len() == 1,
+        _ => false,
+    }
+}
+
+// Slots, pending, token entries, public addresses, the output, the datagram, the lists.
+fn is_lent(word: &[u8]) -> bool {
+    match text::first(word) {
+        b's' => word.len() == 1,
+        b'p' => word.len() == 1,
+        b'e' => word.len() == 1,
+        b'a' => word.len() == 1,
+        b'o' => word.len() == 1,
+        b'd' => word.len() == 1,
+        b'l' => word.len() == 1,
+        _ => false,
+    }
+}
+
+// Of bytes, by a capital: an address, a key, user data, a datagram or payload, a packet, a token entry, public addresses, a token's; and the
+// sign. Of letters: which table of words, and what is lent.
 fn is_of(word: &[u8], kind: u8) -> bool {
     match kind {
         b'I' => is_bytes_of(word, 16),
@@ -79,9 +105,12 @@ fn is_of(word: &[u8], kind: u8) -> bool {
         b'U' => is_bytes_of(word, 256),
         b'D' => is_bytes_to(word, 2048),
         b'P' => is_bytes_to(word, 1400),
+        b'E' => is_bytes_of(word, 47),
         b'A' => is_addresses_to(word, 4),
         b'T' => is_addresses_to(word, 64),
         b'=' => text::same(word, b"="),
+        b't' => is_table(word),
+        b'x' => is_lent(word),
         _ => is_number_of(word, kind),
     }
 }
@@ -99,8 +128,19 @@ fn is_shaped(left: &[u8], kinds: &[u8]) -> bool {
     true
 }
 
-// Whether a line up to its sign is a call of this letter.
-fn is_call_of(left: &[u8], letter: u8) -> bool {
+// Whether a line up to its sign alters a table or lends less, and makes no call.
+fn is_setting_of(left: &[u8], letter: u8) -> bool {
+    match letter {
+        b'K' => is_shaped(left, b"tnnn="),
+        b'Y' => is_shaped(left, b"iE="),
+        b'F' => is_shaped(left, b"ii="),
+        b'L' => is_shaped(left, b"xn="),
+        _ => false,
+    }
+}
+
+// Whether a line up to its sign is one of this letter.
+fn is_line_of(left: &[u8], letter: u8) -> bool {
     match letter {
         b'S' => is_shaped(left, b"nnnnyKKspeA="),
         b'U' => is_shaped(left, b"nn="),
@@ -113,16 +153,27 @@ fn is_call_of(left: &[u8], letter: u8) -> bool {
         b'C' => is_shaped(left, b"n="),
         b'D' => is_shaped(left, b"n="),
         b'Q' => is_shaped(left, b"n="),
+        _ => is_setting_of(left, letter),
+    }
+}
+
+// The letters of lines that make no call.
+pub(crate) fn is_setting(letter: u8) -> bool {
+    match letter {
+        b'K' => true,
+        b'Y' => true,
+        b'F' => true,
+        b'L' => true,
         _ => false,
     }
 }
 
-// The line's letter, or a space where it is no call.
+// The line's letter, or a space where it is none of these.
 pub(crate) fn letter(left: &[u8]) -> u8 {
     let word = text::token(left, 0);
     if word.len() != 1 {
         return b' ';
     }
-    let c = word[0];
-    if is_call_of(left, c) { c } else { b' ' }
+    let c = text::first(word);
+    if is_line_of(left, c) { c } else { b' ' }
 }

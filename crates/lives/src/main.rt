@@ -3,7 +3,9 @@
 // (`text`); the rest is safe and ends, and what it is worth is run.
 use report::COUNTS;
 use say::ROOM;
+use standing::SIZES;
 
+mod alter;
 mod asking;
 mod clients;
 mod datagrams;
@@ -18,7 +20,7 @@ mod text;
 mod told;
 mod turn;
 
-// Of the tables as much is lent as the last set-up was given; nothing is said where the line is no call.
+// The call, lent as much of each table and of the output as was said.
 fn lend(
     letter: u8,
     left: &[u8],
@@ -28,30 +30,65 @@ fn lend(
     entries: &mut [u8],
     public: &[u64; 12],
     held: &mut [u8; 340],
-    out: &mut [u8; 1400],
-    datagram: &mut [u8; 2048],
-    sizes: &mut [usize; 5],
-    said: &mut [u8; ROOM],
-) -> usize {
-    if letter == b' ' {
-        return 0;
-    }
-    let n = text::least(sizes[0], slots.len());
-    let m = text::least(sizes[1], pending.len());
-    let k = text::least(sizes[2], entries.len());
-    turn::take(
+    out: &mut [u8],
+    heard: &[u8; 2048],
+    sizes: &[usize; SIZES],
+    answer: &mut [u64; 14],
+    ask: &mut [u8; 85],
+) {
+    let n = text::least(sizes[standing::SLOTS], slots.len());
+    let m = text::least(sizes[standing::PENDING], pending.len());
+    let k = text::least(sizes[standing::ENTRIES], entries.len());
+    let o = text::least(sizes[standing::OUT], out.len());
+    turn::call(
         letter,
         left,
         server,
         &mut slots[0..n],
         &mut pending[0..m],
         &mut entries[0..k],
-        standing::first(public, sizes[3]),
+        standing::first(public, sizes[standing::PUBLIC]),
         held,
-        out,
-        datagram,
-        sizes,
+        &mut out[0..o],
+        bodies::field(heard, 0, 0, sizes[standing::HEARD]),
+        answer,
+        ask,
+    );
+}
+
+// What came of it, with all of the tables; a query is made here.
+fn tell(
+    letter: u8,
+    left: &[u8],
+    server: &[u64; 34],
+    slots: &[u64; 2480],
+    pending: &[u64; 1240],
+    entries: &[u8; 98304],
+    out: &[u8; 1400],
+    sizes: &[usize; SIZES],
+    answer: &[u64; 14],
+    ask: &[u8; 85],
+    said: &mut [u8; ROOM],
+) -> usize {
+    if letter == b'Q' {
+        let lent = standing::first(slots, sizes[standing::SLOTS]);
+        return asking::tell(
+            said,
+            server,
+            lent,
+            text::number(left, 1),
+            sizes[standing::LIST],
+        );
+    }
+    told::tell(
+        letter,
         said,
+        answer,
+        ask,
+        out,
+        standing::first(slots, sizes[0]),
+        standing::first(pending, sizes[1]),
+        bodies::field(entries, 0, 0, sizes[2]),
     )
 }
 
@@ -78,10 +115,10 @@ fn right(line: &[u8]) -> &[u8] {
     bodies::field(line, text::after_sign(line), 0, line.len())
 }
 
-// The line's letter, once it is counted and, of a set-up, the tables have their sizes.
+// The line's letter, once it is counted and what is lent has its sizes.
 fn begin(
     line: &[u8],
-    sizes: &mut [usize; 5],
+    sizes: &mut [usize; SIZES],
     public: &mut [u64; 12],
     counts: &mut [u64; COUNTS],
 ) -> u8 {
@@ -91,7 +128,8 @@ fn begin(
     letter
 }
 
-// A line without its end: the call, and whether it came to what stands right of the sign.
+// A line without its end: the call, and whether it came to what stands right of the sign. Answer and ask are filled before, so that what a
+// call leaves unwritten shows.
 fn take(
     line: &[u8],
     server: &mut [u64; 34],
@@ -102,12 +140,16 @@ fn take(
     held: &mut [u8; 340],
     out: &mut [u8; 1400],
     datagram: &mut [u8; 2048],
-    sizes: &mut [usize; 5],
+    sizes: &mut [usize; SIZES],
     said: &mut [u8; ROOM],
     counts: &mut [u64; COUNTS],
 ) {
     let letter = begin(line, sizes, public, counts);
-    let n = lend(
+    alter::alter(letter, left(line), server, slots, pending, entries);
+    datagrams::keep(letter, left(line), datagram, sizes);
+    let mut answer = [0xaau64; 14];
+    let mut ask = [0xaau8; 85];
+    lend(
         letter,
         left(line),
         server,
@@ -119,6 +161,20 @@ fn take(
         out,
         datagram,
         sizes,
+        &mut answer,
+        &mut ask,
+    );
+    let n = tell(
+        letter,
+        left(line),
+        server,
+        slots,
+        pending,
+        entries,
+        out,
+        sizes,
+        &answer,
+        &ask,
         said,
     );
     judge::compare(letter, right(line), said, n, counts);
@@ -138,7 +194,7 @@ fn replay_all() -> [u64; COUNTS] {
     let mut held = [0u8; 340];
     let mut out = [0u8; 1400];
     let mut datagram = [0u8; 2048];
-    let mut sizes = [0usize; 5];
+    let mut sizes = [0usize; 10];
     let mut said = [0u8; 4096];
     for _ in 0..u64::MAX {
         let n = lines::next(&mut space, &mut window, &mut line);

@@ -3,8 +3,8 @@ ghost use Prim.Native.Nat.{_+_, _≤_, _<_};
 use crate::text;
 use libc::STDOUT_FILENO;
 
-// Lines of each letter; of no call; answers of each case; of each refusal's number; lines as the Rust's; with a change that was noticed.
-pub(crate) const COUNTS: usize = 45;
+// Calls of each letter; lines that make none; lines that are neither; answers of each case; of each refusal's number; lines as the Rust's; with a change that was noticed.
+pub(crate) const COUNTS: usize = 46;
 
 const LETTERS: [u8; 21] = *b"S U M P O T E G C D Q";
 
@@ -12,26 +12,28 @@ const CASES: [u8; 65] = *b"refused nothing ask packet_to_send payload connected 
 
 const NUMBERS: [u8; 62] = *b"1 2 3 4 5 6 7 8 9 10 11 12 13 14 15 16 17 18 19 20 21 22 23 24";
 
-const OTHER: usize = 11;
+const SETTING: usize = 11;
 
-const CASE: usize = 12;
+const OTHER: usize = 12;
 
-const NUMBER: usize = 19;
+const CASE: usize = 13;
 
-const SAME: usize = 43;
+const NUMBER: usize = 20;
 
-const NOTICED: usize = 44;
+const SAME: usize = 44;
+
+const NOTICED: usize = 45;
 
 // ---- counting
 
 fn add(counts: &mut [u64; COUNTS], at: usize)
-    requires { ⌜ at < 45 ⌝ }
+    requires { ⌜ at < 46 ⌝ }
 {
     counts[at] = std::num::wrapping_add_u64(counts[at], 1);
 }
 
 fn index(letter: u8) -> usize
-    ensures { λ r. ⌜ r ≤ 11 ⌝ }
+    ensures { λ r. ⌜ r ≤ 12 ⌝ }
 {
     match letter {
         b'S' => 0,
@@ -45,7 +47,8 @@ fn index(letter: u8) -> usize
         b'C' => 8,
         b'D' => 9,
         b'Q' => 10,
-        _ => OTHER,
+        b' ' => OTHER,
+        _ => SETTING,
     }
 }
 
@@ -88,10 +91,10 @@ pub(crate) fn count_noticed(counts: &mut [u64; COUNTS]) {
     add(counts, NOTICED);
 }
 
-// All lines: of each letter, and of no call.
+// All lines: of each letter, and of none.
 pub(crate) fn lines(counts: &[u64; COUNTS]) -> u64 {
     let mut sum: u64 = 0;
-    for i in 0..12usize {
+    for i in 0..13usize {
         sum = std::num::wrapping_add_u64(sum, counts[i]);
     }
     sum
@@ -121,7 +124,7 @@ fn cell(names: &[u8], i: usize, count: u64) {
 
 // A name and a count for each of n.
 fn row(title: &[u8], names: &[u8], counts: &[u64; COUNTS], from: usize, n: usize)
-    requires { ⌜ from + n ≤ 45 ⌝ }
+    requires { ⌜ from + n ≤ 46 ⌝ }
 {
     say(title);
     for i in 0..n {
@@ -137,7 +140,7 @@ fn is_all(counts: &[u64; COUNTS], total: u64) -> bool {
     if counts[SAME] != total {
         return false;
     }
-    counts[NOTICED] == total
+    std::num::wrapping_add_u64(counts[NOTICED], counts[SETTING]) == total
 }
 
 fn verdict(holds: bool) {
@@ -159,6 +162,8 @@ pub(crate) fn table(counts: &[u64; COUNTS]) {
     say(b" as the Rust's, ");
     say_number(counts[NOTICED]);
     say(b" noticed with a character changed, ");
+    say_number(counts[SETTING]);
+    say(b" that alter or lend, ");
     say_number(counts[OTHER]);
     say(b" of no call\n");
     verdict(is_all(counts, total));

@@ -1,18 +1,70 @@
 // Set-up, the clock and the limit, given what a line says.
+ghost use Prim.Native.Nat.{_<_};
 use crate::text;
 
-// Before set-up: how many words, or bytes, of the tables are lent from now on, and the public addresses.
-pub(crate) fn resize(letter: u8, left: &[u8], sizes: &mut [usize; 5], public: &mut [u64; 12]) {
-    if letter != b'S' {
-        return;
-    }
+// How long the tables are: slots, pending, token entries; and how much of each is lent, then of the public addresses, the output, the
+// datagram and a list.
+pub(crate) const SIZES: usize = 10;
+
+pub(crate) const SLOTS: usize = 3;
+
+pub(crate) const PENDING: usize = 4;
+
+pub(crate) const ENTRIES: usize = 5;
+
+pub(crate) const PUBLIC: usize = 6;
+
+pub(crate) const OUT: usize = 7;
+
+pub(crate) const HEARD: usize = 8;
+
+pub(crate) const LIST: usize = 9;
+
+// Before set-up: the tables' sizes, all of which is lent, and the public addresses.
+fn begin(left: &[u8], sizes: &mut [usize; SIZES], public: &mut [u64; 12]) {
     let mut bytes = [0u8; 96];
     let n = text::bytes(left, 11, &mut bytes) / 8;
-    sizes[0] = (text::number(left, 8) % 9) as usize * 310;
-    sizes[1] = (text::number(left, 9) % 5) as usize * 310;
-    sizes[2] = (text::number(left, 10) % 2049) as usize * 48;
-    sizes[3] = n;
+    let slots = (text::number(left, 8) % 9) as usize * 310;
+    let pending = (text::number(left, 9) % 5) as usize * 310;
+    let entries = (text::number(left, 10) % 2049) as usize * 48;
+    *sizes = [
+        slots,
+        pending,
+        entries,
+        slots,
+        pending,
+        entries,
+        n,
+        1400,
+        0,
+        8,
+    ];
     pack(public, &bytes, n);
+}
+
+fn index(what: u8) -> usize
+    ensures { λ r. ⌜ r < 10 ⌝ }
+{
+    match what {
+        b's' => SLOTS,
+        b'p' => PENDING,
+        b'e' => ENTRIES,
+        b'a' => PUBLIC,
+        b'o' => OUT,
+        b'd' => HEARD,
+        _ => LIST,
+    }
+}
+
+// What is lent from this line on.
+pub(crate) fn resize(letter: u8, left: &[u8], sizes: &mut [usize; SIZES], public: &mut [u64; 12]) {
+    match letter {
+        b'S' => begin(left, sizes, public),
+        b'L' => {
+            sizes[index(text::first(text::token(left, 1)))] = text::number(left, 2) as usize;
+        }
+        _ => {}
+    }
 }
 
 // As many words as there are, and as there is room for.

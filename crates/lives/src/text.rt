@@ -56,6 +56,14 @@ pub(crate) fn token(line: &[u8], which: usize) -> &[u8]
     &line[start..end]
 }
 
+// A token's first letter, or a space.
+pub(crate) fn first(word: &[u8]) -> u8 {
+    if word.len() == 0 {
+        return b' ';
+    }
+    word[0]
+}
+
 // How many spaces the line has: one less than tokens.
 pub(crate) fn spaces(line: &[u8]) -> usize {
     let mut count: usize = 0;

@@ -1,14 +1,14 @@
--- The counts passed are twelve at most.
+-- The counts passed are thirteen at most.
 use Prim.Native.Nat.{_-_, _≤_}
 use borrow.Author.Needs.{needs}
 use Rattle.lives.proofs.report.lines.Statement.{statement}
 use Rattle.lives.proofs.report.lines.Tie as tie
 
 abbrev Inv-loop : tie.InvT-loop
-Inv-loop counts sum₀ i₀ sum i = i ≤ 12
+Inv-loop counts sum₀ i₀ sum i = i ≤ 13
 
 abbrev μ-loop : tie.MeasureT-loop
-μ-loop counts sum₀ i₀ sum i = 12 - i
+μ-loop counts sum₀ i₀ sum i = 13 - i
 
 loop-holds : tie.Need-loop-holds Inv-loop μ-loop
 loop-holds c = search needs
