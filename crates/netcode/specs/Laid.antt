@@ -1,7 +1,7 @@
 -- The server's record in 34 words, for a host in another language. Words 0 to 5 and 14 to 21 are what set-up fixed; words 6 to 13 and 22 to 33
 -- are what calls change. Any words are a record.
 use Prim.Native.Nat.{ℕ}
-use mathlib.Core.Bool.{not}
+use mathlib.Core.Bool.{Bool, not}
 use mathlib.Core.List.{List, [], _∷_}
 use lib.ListN.{getD}
 use lib.Dec.{eqb}
@@ -72,11 +72,18 @@ goalWords (Connecting place slot) sequence end = placed 7 place slot sequence en
 goalWords (Sending slot) sequence end = placed 8 0 slot sequence end
 goalWords (Ending id addr) sequence end = addressed 9 sequence end addr id
 
+-- a packet or a private token that is to be opened
+abbrev pub packetWords : Bool → ℕ → PacketType → ℕ → ℕ → List ℕ
+packetWords connected place kind sequence start =
+    1 ∷ place ∷ 0 ∷ numberOf kind ∷ sequence ∷ start ∷ bit connected ∷ 0 ∷ 0 ∷ 0 ∷ 0 ∷ 0 ∷ 0 ∷ []
+
+abbrev pub tokenWords : Address → ℕ → ℕ → ℕ → List ℕ
+tokenWords a expiry low high = 2 ∷ 0 ∷ 0 ∷ 0 ∷ 0 ∷ 0 ∷ 0 ∷ firstWord a ∷ a .low ∷ a .high ∷ expiry ∷ low ∷ high ∷ []
+
 unfoldable pub stageWords : Stage → List ℕ
 stageWords Idle = placed 0 0 0 0 0
-stageWords (Packet connected place kind sequence start) =
-    1 ∷ place ∷ 0 ∷ numberOf kind ∷ sequence ∷ start ∷ bit connected ∷ 0 ∷ 0 ∷ 0 ∷ 0 ∷ 0 ∷ 0 ∷ []
-stageWords (Token a expiry low high) = 2 ∷ 0 ∷ 0 ∷ 0 ∷ 0 ∷ 0 ∷ 0 ∷ firstWord a ∷ a .low ∷ a .high ∷ expiry ∷ low ∷ high ∷ []
+stageWords (Packet connected place kind sequence start) = packetWords connected place kind sequence start
+stageWords (Token a expiry low high) = tokenWords a expiry low high
 stageWords (Challenge place start) = placed 3 place 0 0 start
 stageWords (Seal goal sequence end) = goalWords goal sequence end
 

@@ -2,7 +2,7 @@
 // of an address; expiry or id; two words of the private data's end. Those that a stage does not have are 0.
 ghost use mathlib.Core.Path.{_≡_};
 ghost use Rattle.records.specs.Records.{bit};
-ghost use Rattle.netcode.specs.Laid.{kindIn, addrIn, goalIn, stageIn, addressed, placed, goalWords, stageWords};
+ghost use Rattle.netcode.specs.Laid.{kindIn, addrIn, goalIn, stageIn, addressed, placed, goalWords, packetWords, tokenWords, stageWords};
 use addresses::Address;
 use bodies::PacketType;
 use server::Goal;
@@ -151,67 +151,74 @@ fn goal_words(goal: Goal, sequence: u64, end: usize) -> [u64; 13]
     }
 }
 
+// A packet that is to be opened.
+fn packet_words(
+    connected: bool,
+    place: usize,
+    kind: PacketType,
+    sequence: u64,
+    start: usize,
+) -> [u64; 13]
+    ensures { λ r. ⌜ r ≡ packetWords connected place kind sequence start ⌝ }
+{
+    let number = kind.to_u8();
+    [
+        1,
+        place as u64,
+        0,
+        number as u64,
+        sequence,
+        start as u64,
+        bit_of(connected),
+        0,
+        0,
+        0,
+        0,
+        0,
+        0,
+    ]
+}
+
+// A private token that is to be opened.
+fn token_words(addr: Address, expire_timestamp: u64, mac_low: u64, mac_high: u64) -> [u64; 13]
+    ensures { λ r. ⌜ r ≡ tokenWords addr «expire_timestamp» «mac_low» «mac_high» ⌝ }
+{
+    [
+        2,
+        0,
+        0,
+        0,
+        0,
+        0,
+        0,
+        addr.first_word(),
+        addr.low,
+        addr.high,
+        expire_timestamp,
+        mac_low,
+        mac_high,
+    ]
+}
+
 pub fn stage_words(stage: Stage) -> [u64; 13]
     ensures { λ r. ⌜ r ≡ stageWords stage ⌝ }
 {
     match stage {
-        Stage::Idle => [0, 0, 0, 0, 0, 0, 0, 0, 0, 0, 0, 0, 0],
+        Stage::Idle => placed(0, 0, 0, 0, 0),
         Stage::Packet {
             connected,
             place,
             kind,
             sequence,
             start,
-        } => [
-            1,
-            place as u64,
-            0,
-            kind.to_u8() as u64,
-            sequence,
-            start as u64,
-            bit_of(connected),
-            0,
-            0,
-            0,
-            0,
-            0,
-            0,
-        ],
+        } => packet_words(connected, place, kind, sequence, start),
         Stage::Token {
             addr,
             expire_timestamp,
             mac_low,
             mac_high,
-        } => [
-            2,
-            0,
-            0,
-            0,
-            0,
-            0,
-            0,
-            addr.first_word(),
-            addr.low,
-            addr.high,
-            expire_timestamp,
-            mac_low,
-            mac_high,
-        ],
-        Stage::Challenge { place, start } => [
-            3,
-            place as u64,
-            0,
-            0,
-            0,
-            start as u64,
-            0,
-            0,
-            0,
-            0,
-            0,
-            0,
-            0,
-        ],
+        } => token_words(addr, expire_timestamp, mac_low, mac_high),
+        Stage::Challenge { place, start } => placed(3, place, 0, 0, start),
         Stage::Seal {
             goal,
             sequence,

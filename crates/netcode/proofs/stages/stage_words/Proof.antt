@@ -7,26 +7,26 @@ use Rattle.netcode.proofs.stages.stage_words.Tie as tie
 enum-told : tie.Need-enum-told
 enum-told c = search needs
 
+placed-requires : tie.Need-placed-requires
+placed-requires c κs = search needs
+
 enum-known-stage : tie.Need-enum-known-stage
 enum-known-stage c = search needs
 
-to-u8-requires : tie.Need-to-u8-requires
-to-u8-requires c κs = search needs
-
-cast-t19 : tie.Need-cast-t19
-cast-t19 c = search needs
-
-bit-of-requires : tie.Need-bit-of-requires
-bit-of-requires c κs = search needs
+packet-words-requires : tie.Need-packet-words-requires
+packet-words-requires c κs = search needs
 
 enum-known-stage-2 : tie.Need-enum-known-stage-2
 enum-known-stage-2 c = search needs
 
-first-word-requires : tie.Need-first-word-requires
-first-word-requires c κs = search needs
+token-words-requires : tie.Need-token-words-requires
+token-words-requires c κs = search needs
 
 enum-known-stage-3 : tie.Need-enum-known-stage-3
 enum-known-stage-3 c = search needs
+
+placed-requires-2 : tie.Need-placed-requires-2
+placed-requires-2 c κs = search needs
 
 enum-known-stage-4 : tie.Need-enum-known-stage-4
 enum-known-stage-4 c = search needs
@@ -36,19 +36,19 @@ goal-words-requires c κs = search needs
 
 returns : tie.Need-returns
 unfolding stageWords
-returns c = simp (c .enum-told .given .1)
+returns c = simp (c .placed .ensures, c .before .enum-told .given .1)
 
 returns-2 : tie.Need-returns-2
 unfolding stageWords
-returns-2 c = simp (c .bit-of .ensures, c .before .to-u8 .ensures, c .before .before .before .stage .given .1)
+returns-2 c = simp (c .packet-words .ensures, c .before .before .stage .given .1)
 
 returns-3 : tie.Need-returns-3
 unfolding stageWords
-returns-3 c = simp (c .first-word .ensures, c .before .before .stage2 .given .1)
+returns-3 c = simp (c .token-words .ensures, c .before .before .stage2 .given .1)
 
 returns-4 : tie.Need-returns-4
 unfolding stageWords
-returns-4 c = simp (c .before .stage3 .given .1)
+returns-4 c = simp (c .placed2 .ensures, c .before .before .stage3 .given .1)
 
 returns-5 : tie.Need-returns-5
 unfolding stageWords
@@ -59,13 +59,13 @@ stage-words-spec =
     tie.close
     (tie.spec
     enum-told
+    placed-requires
     enum-known-stage
-    to-u8-requires
-    cast-t19
-    bit-of-requires
+    packet-words-requires
     enum-known-stage-2
-    first-word-requires
+    token-words-requires
     enum-known-stage-3
+    placed-requires-2
     enum-known-stage-4
     goal-words-requires
     returns
