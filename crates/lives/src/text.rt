@@ -1,7 +1,7 @@
 // A line's tokens, and what they say: numbers in decimal, bytes in hexadecimal. Every function takes any line: a token that is not there
 // is empty.
 ghost use mathlib.Core.Path.{_≡_};
-ghost use Prim.Native.Nat.{_+_, _*_, _/_, _%_, _-_, _^_, _≤_, min};
+ghost use Prim.Native.Nat.{_+_, _*_, _/_, _%_, _-_, _≤_, min};
 ghost use lib.ListN.{length, drop};
 ghost use lib.Dec.{ltb};
 ghost use Rattle.io.specs.Counts.{Counts};

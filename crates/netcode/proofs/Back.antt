@@ -4,7 +4,7 @@ use mathlib.Core.Path.{_≡_, refl, sym, ap, ap₂, _∙_}
 use mathlib.Core.Bool.{Bool, true, false, not}
 use Prim.Native.Nat.{ℕ, _+_, _*_, _/_, _%_, _≤_, _<_}
 use native.Mathlib.Omega.{arith}
-use mathlib.Core.List.{List, [], _∷_}
+use mathlib.Core.List.{List}
 use lib.ListN.{length, getD}
 use lib.Dec.{eqb}
 use Rattle.serialize.specs.Choice.{pick}
@@ -12,7 +12,6 @@ use Rattle.serialize.specs.Runs.{part, splice, Below}
 use Rattle.serialize.specs.Le.{words, bytesOf}
 use Rattle.serialize.proofs.Lists.{length-part, getD-part, length-splice, getD-splice-in, getD-splice-other, part-whole, part-splice-in, part-splice-before, part-splice-after}
 use Rattle.serialize.proofs.Packed.{length-words, bytesOf-words}
-use Rattle.times.specs.Times.{time}
 use Rattle.addresses.specs.declared.Address.{Address}
 use Rattle.addresses.specs.Addresses.{address, ofWords, firstWord}
 use Rattle.bodies.specs.declared.PacketType.{PacketType}

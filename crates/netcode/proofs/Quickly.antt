@@ -6,10 +6,10 @@ use Prim.Native.Nat.{ℕ, _+_, _-_, _≤_, _<_}
 use native.Mathlib.Omega.{arith}
 use mathlib.Core.List.{List, [], _∷_}
 use lib.ListN.{length, getD, set}
-use lib.Dec.{eqb, ltb, leb}
-use borrow.Author.Tests.{eq-eqb, ne-eqb, lt-ltb, le-ltb, le-leb, lt-leb, ltb-false, not-true}
+use lib.Dec.{eqb, ltb}
+use borrow.Author.Tests.{eq-eqb, ne-eqb, le-ltb, lt-leb, ltb-false, not-true}
 use Rattle.serialize.specs.declared.Found.{Found}
-use Rattle.serialize.specs.declared.Found.the-variants.{At, Nothing}
+use Rattle.serialize.specs.declared.Found.the-variants.{At}
 use Rattle.serialize.specs.Choice.{pick}
 use Rattle.serialize.specs.Runs.{part}
 use Rattle.replay_protection.specs.Replay.{refusal, arrive}
@@ -32,10 +32,7 @@ use Rattle.decode.specs.declared.Kind.the-variants as kindly
 use Rattle.decode.specs.declared.Start.{Start}
 use Rattle.decode.specs.declared.Start.the-variants as starting
 use Rattle.decode.specs.Decodes.{typeAt, startAt}
-use Rattle.server.specs.declared.NetcodeServer.{NetcodeServer}
-use Rattle.server.specs.declared.Stage.{Stage}
-use Rattle.server.specs.declared.Stage.the-variants.{Idle, Packet}
-use Rattle.server.specs.declared.Answer.{Answer}
+use Rattle.server.specs.declared.Stage.the-variants.{Packet}
 use Rattle.server.specs.declared.Answer.the-variants as answer
 use Rattle.server.specs.declared.Ask as host
 use Rattle.server.specs.State.{withAsk, opened, idle}

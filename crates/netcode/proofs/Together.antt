@@ -15,7 +15,7 @@ use Rattle.grants.specs.Grants as grants
 use Rattle.sending.specs.Packets as sending
 use Rattle.netcode.specs.Laid.{recordIn}
 use Rattle.netcode.specs.Told.{Desk}
-use Rattle.netcode.specs.Calls.{turnOn, Stepped, stepped, steppedAs, updatedAs, Moved, moved, movedAs, Wrote, wrote, wroteAs, booked, bookedAs, spoke, spokeAs, attended, attendedAs, replied, repliedAs}
+use Rattle.netcode.specs.Calls.{turnOn, Stepped, stepped, steppedAs, updatedAs, moved, movedAs, wrote, wroteAs, booked, bookedAs, spoke, spokeAs, attended, attendedAs, replied, repliedAs}
 
 module _ (words : List ℕ) (s : NetcodeServer) (read : s ≡ recordIn words) where
   -- a query q that gives a reply r

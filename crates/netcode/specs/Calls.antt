@@ -5,13 +5,11 @@ use mathlib.Core.List.{List, [], _∷_}
 use lib.Dec.{eqb, ltb}
 use Rattle.serialize.specs.Choice.{pick}
 use Rattle.times.specs.declared.Time.{Time}
-use Rattle.server.specs.declared.NetcodeServer.{NetcodeServer}
 use Rattle.server.specs.declared.Step.{Step}
 use Rattle.server.specs.Asking.{noAsk}
 use Rattle.upkeep.specs.declared.ServerConfig.{ServerConfig}
 use Rattle.upkeep.specs.SetUps as begin
 use Rattle.upkeep.specs.Clocks as clocks
-use Rattle.upkeep.specs.Limits.{limited}
 use Rattle.queries.specs.Replies as replies
 use Rattle.queries.specs.Queries as queries
 use Rattle.turns.specs.declared.Turn.{Turn}

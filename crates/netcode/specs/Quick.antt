@@ -4,7 +4,7 @@ use mathlib.Core.Bool.{true}
 use Prim.Native.Nat.{ℕ, _+_, _-_, _≤_, _<_}
 use mathlib.Core.List.{List, [], _∷_}
 use lib.ListN.{length, getD}
-use Rattle.serialize.specs.Runs.{part, splice, zeros}
+use Rattle.serialize.specs.Runs.{part, splice}
 use Rattle.bodies.specs.declared.PacketType.{PacketType}
 use Rattle.bodies.specs.declared.PacketType.the-variants as kind
 use Rattle.bodies.specs.Kinds.{windowed}
