@@ -41,9 +41,11 @@ the program itself, `compare/bench`:
   not counted. The median, the middle half (quartiles) and the least and most over the rounds are given; on a machine that has something
   else to do the last two say more about that than about either side.
 
-Where the two differ: ours has a cost a call that does not hang on how many are connected, since the record is read from the host's words
-and laid back, and what needs the cipher is two calls or more. To find a pump the Rust walks over whole records, ours over columns of
-addresses and ids. What is pending is a hash map in the Rust and a table of 4,096 places in ours, which requests and the clock walk.
+Where the two differ: what needs the cipher is two calls or more of ours. Payloads, and turns with nothing due, go a short way on the
+record's words; every other call reads the record from the host's words, hands it down by value and lays it back, which costs the same
+however many are connected: that is what shows where keep-alives are due and few are connected. To find a pump the Rust walks over whole
+records, ours over columns of addresses and ids. What is pending is a hash map in the Rust and a table of 4,096 places in ours, which
+requests and the clock walk.
 ";
 
 pub fn page(machine: &str, sections: &[Section]) -> String {
