@@ -12,7 +12,7 @@
  * and gets back
  *   answer    NETCODE_ANSWER_WORDS words, see "answers"
  *   ask       NETCODE_ASK_BYTES bytes, see "asks"
- * Every call writes answer and ask whole. A slice is a pointer and a length; a pointer to nothing (length 0) must still be non-null.
+ * A call writes whole what it is lent of answer and ask. A slice is a pointer and a length; a pointer to nothing (length 0) must still be non-null.
  * What is lent to one call must not overlap. Any values in all of these are an input like any other and get an answer: there is no
  * undefined case but memory that is not there. One server is for one thread at a time; two servers share nothing.
  *
