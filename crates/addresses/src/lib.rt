@@ -1,5 +1,7 @@
 // Addresses: kind 4 or 6, 16 bytes and a port, kept as plain numbers, so that comparing is a few tests and a table holds one in
 // three words.
+#![tactic(auto)]
+
 ghost use Rattle.std.specs.Prelude.{◌≡◌, ◌+◌, ◌≤◌, length};
 ghost use Rattle.addresses.specs.Addresses.{first_word, of_words, of_bytes, to_bytes, well_formed, refusal, same, has_words};
 
@@ -10,7 +12,7 @@ pub use list::{address_at, any_ours, count_addresses, find_malformed, find_words
 // Words of an address in a table or a list: kind * 65,536 + port, then the 16 bytes as two little-endian words.
 pub const ADDRESS_WORDS: usize = 3;
 
-#[derive(Drop)]
+#[derive(Clone, Copy)]
 pub struct Address {
     pub kind: u8,
     pub port: u16,

@@ -1,4 +1,6 @@
 // A datagram: `process_packet`, up to the first ask.
+#![tactic(auto)]
+
 ghost use Rattle.std.specs.Prelude.{◌≡◌, ◌≤◌, length};
 ghost use Rattle.places.specs.Layout.{Shaped};
 ghost use Rattle.turns.specs.Outcomes.{state, came};
@@ -15,7 +17,7 @@ mod sealed;
 mod senders;
 
 // Whose address a datagram came from: a slot's, a pending place's, or nobody's.
-#[derive(Drop)]
+#[derive(Clone, Copy)]
 pub enum Sender {
     Connected(usize),
     Pending(usize),

@@ -1,4 +1,6 @@
 // What the host is asked for, and whether what its answer lends is what the ask spoke of.
+#![tactic(auto)]
+
 ghost use Rattle.std.specs.Prelude.{◌≡◌, ◌+◌, ltb};
 ghost use Rattle.asks.specs.Asks.{no_ask, packet_ask, token_ask, unlike};
 
@@ -7,7 +9,7 @@ pub const NETCODE_KEY_BYTES: usize = 32;
 
 pub const NETCODE_MAC_BYTES: usize = 16;
 
-#[derive(Drop)]
+#[derive(Clone, Copy)]
 pub enum Work {
     Open,
     Seal,
@@ -15,7 +17,7 @@ pub enum Work {
 
 // What the host is asked for: to open or to seal, in place, the part of its buffer from start to end, tag and all, under a key and
 // a nonce, with the first `size` bytes of additional data: 22 for a packet, none for a challenge token.
-#[derive(Drop)]
+#[derive(Clone, Copy)]
 pub struct Ask {
     pub work: Work,
     pub key: [u8; NETCODE_KEY_BYTES],
@@ -27,7 +29,7 @@ pub struct Ask {
 }
 
 // A key that may be missing.
-#[derive(Drop)]
+#[derive(Clone, Copy)]
 pub struct PrivateKey {
     pub given: bool,
     pub bytes: [u8; NETCODE_KEY_BYTES],

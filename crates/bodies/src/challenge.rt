@@ -5,7 +5,7 @@ ghost use Rattle.bodies.specs.Tokens.{token, token_clear, token_at};
 
 use crate::NETCODE_USER_DATA_BYTES;
 
-#[derive(Drop)]
+#[derive(Clone, Copy)]
 pub struct ChallengeToken {
     pub client_id: u64,
     pub user_data: [u8; NETCODE_USER_DATA_BYTES],

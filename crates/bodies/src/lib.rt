@@ -1,4 +1,6 @@
 // The seven packets without their heads: their types, and their bodies read from and written to a place of a slice.
+#![tactic(auto)]
+
 ghost use Rattle.std.specs.Prelude.{◌≡◌};
 ghost use Rattle.bodies.specs.Kinds.{type_of, number_of, windowed, is_request};
 ghost use Rattle.bodies.specs.Bodies.{kind_of, least, wants, body_length};
@@ -20,7 +22,7 @@ pub const NETCODE_CONNECT_TOKEN_XNONCE_BYTES: usize = 24;
 
 pub const NETCODE_CONNECT_TOKEN_PRIVATE_BYTES: usize = 1024;
 
-#[derive(Drop)]
+#[derive(Clone, Copy)]
 pub enum PacketType {
     ConnectionRequest,
     ConnectionDenied,
@@ -32,7 +34,7 @@ pub enum PacketType {
 }
 
 // What a number is among the types: one of them, or none (refusal 2).
-#[derive(Drop)]
+#[derive(Clone, Copy)]
 pub enum TypeRead {
     Known(PacketType),
     Invalid,
@@ -40,7 +42,7 @@ pub enum TypeRead {
 
 // What a packet says in numbers. Its bytes stand beside it, in a slice: of a request its version, nonce and private data (13, 24
 // and 1,024), of a challenge or response its token data (300), of a payload all of it.
-#[derive(Drop)]
+#[derive(Clone, Copy)]
 pub enum Packet {
     ConnectionRequest {
         protocol_id: u64,
@@ -62,7 +64,7 @@ pub enum Packet {
 }
 
 // What a body is read as: a packet, or too short for its type (refusal 9).
-#[derive(Drop)]
+#[derive(Clone, Copy)]
 pub enum Body {
     Whole(Packet),
     Short,

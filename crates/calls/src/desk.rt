@@ -12,14 +12,14 @@ use decode::{Challenged, Decoded, Decoding, Opened, Opening, ProofOpening, Provi
 use encode::{Encoded, Encoding, Sealing};
 
 // Words 0 and 1.
-#[derive(Drop)]
+#[derive(Clone, Copy)]
 pub struct Said {
     pub code: u64,
     pub value: u64,
 }
 
 // Words 2 to 7.
-#[derive(Drop)]
+#[derive(Clone, Copy)]
 pub struct Shown {
     pub sequence: u64,
     pub kind: u64,
@@ -31,7 +31,7 @@ pub struct Shown {
 
 // Words 12 to 15: of an ask to open one more than the type, the sequence, the place and the length; of the others 1, 0, the place,
 // which of an ask to seal is its end, and the length.
-#[derive(Drop)]
+#[derive(Clone, Copy)]
 pub struct Kept {
     pub code: u64,
     pub sequence: u64,

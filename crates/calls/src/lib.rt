@@ -1,5 +1,7 @@
 // The packets' parts as C calls, on numbers and bytes alone, for a program in another language that runs them beside the Rust. Each
 // call takes any input. What a call answers stands on the *desk*, sixteen words that the caller lends: see `desk`.
+#![tactic(auto)]
+
 mod desk;
 mod heads;
 mod packets;

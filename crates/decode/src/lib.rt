@@ -1,5 +1,7 @@
 // Decoding: a datagram, or a challenge token. The cipher is the host's: a call that needs it ends in an ask to open, and the host's
 // answer goes on from there. What an open ask needs to go on is a small value that the caller keeps and hands back.
+#![tactic(auto)]
+
 mod reading;
 mod token;
 
@@ -10,14 +12,14 @@ use replay_protection::ReplayProtection;
 pub use token::{answer_challenge, decode_challenge};
 
 // A window that may be missing.
-#[derive(Drop)]
+#[derive(Clone, Copy)]
 pub struct Guard {
     pub given: bool,
     pub window: ReplayProtection,
 }
 
 // A packet that was read, with its sequence and the place of its body in the datagram.
-#[derive(Drop)]
+#[derive(Clone, Copy)]
 pub struct Opened {
     pub sequence: u64,
     pub packet: Packet,
@@ -26,7 +28,7 @@ pub struct Opened {
 }
 
 // What decoding comes to: refused by a number, an ask to open, or a packet.
-#[derive(Drop)]
+#[derive(Clone, Copy)]
 pub enum Decoding {
     Refused(u8),
     Asked,
@@ -34,7 +36,7 @@ pub enum Decoding {
 }
 
 // An ask to open a packet that is open: its type, sequence and place, and the length of the datagram that was lent.
-#[derive(Drop)]
+#[derive(Clone, Copy)]
 pub enum Opening {
     Closed,
     Open {
@@ -45,7 +47,7 @@ pub enum Opening {
     },
 }
 
-#[derive(Drop)]
+#[derive(Clone, Copy)]
 pub struct Decoded {
     pub answer: Decoding,
     pub ask: Ask,
@@ -54,21 +56,21 @@ pub struct Decoded {
 }
 
 // A datagram's type, or the number that refuses it.
-#[derive(Drop)]
+#[derive(Clone, Copy)]
 pub enum Kind {
     Refused(u8),
     Of(PacketType),
 }
 
 // A datagram's sequence and where its sealed part starts, or the number that refuses it.
-#[derive(Drop)]
+#[derive(Clone, Copy)]
 pub enum Start {
     Refused(u8),
     At { sequence: u64, start: usize },
 }
 
 // What decoding a challenge token comes to.
-#[derive(Drop)]
+#[derive(Clone, Copy)]
 pub enum Proving {
     Refused(u8),
     Asked,
@@ -76,13 +78,13 @@ pub enum Proving {
 }
 
 // An ask to open a challenge token that is open: where it stands, and the length of the buffer that was lent.
-#[derive(Drop)]
+#[derive(Clone, Copy)]
 pub enum ProofOpening {
     Closed,
     Open { at: usize, len: usize },
 }
 
-#[derive(Drop)]
+#[derive(Clone, Copy)]
 pub struct Challenged {
     pub answer: Proving,
     pub ask: Ask,

@@ -1,1 +1,2 @@
 // Theorems on what the calls do, over their definitions alone. No code.
+#![tactic(auto)]

@@ -1,4 +1,6 @@
 // The token entries of server.rs: which address used which connect token. They are lent bytes: k mark bytes, then k bodies of 47.
+#![tactic(auto)]
+
 ghost use Rattle.std.specs.Prelude.{◌≡◌, ◌<◌};
 ghost use Rattle.serialize.specs.Runs.{splice, zeros};
 ghost use Rattle.entries.specs.Layout.{Shaped, entries_refusal, count};
@@ -23,7 +25,7 @@ pub const ENTRY_BYTES: usize = 48;
 pub const NETCODE_MAC_BYTES: usize = 16;
 
 // A token's use: when, from where, and the last 16 of its private bytes.
-#[derive(Drop)]
+#[derive(Clone, Copy)]
 pub struct ConnectTokenEntry {
     pub time: Time,
     pub address: Address,

@@ -1,6 +1,8 @@
 // One packet's way, as a person would follow it: encoded, sealed by the host, decoded, opened by the host, read; then what is refused.
 // The host's answers are stored: its seal was made with ChaCha20-Poly1305 (RFC 8439) outside this program. Every line says what came
 // out of our functions, and whether it is what it should be.
+#![tactic(auto)]
+
 use asks::{Ask, PrivateKey};
 use bodies::Packet;
 use decode::{Decoded, Decoding, Guard};

@@ -1,5 +1,7 @@
 // Document 01's figures, run: prints each, what came out of our functions, and whether it holds. Those marked * are proved as
 // well, together, in crates/packet/proofs/Figures.antt.
+#![tactic(auto)]
+
 ghost use Rattle.std.specs.Prelude.{◌≤◌};
 
 use libc::STDOUT_FILENO;

@@ -1,4 +1,6 @@
 // The host's answer to an ask to open a request's private token.
+#![tactic(auto)]
+
 ghost use Rattle.std.specs.Prelude.{◌≡◌, ◌≤◌, length};
 ghost use Rattle.places.specs.Layout.{Shaped};
 ghost use Rattle.entries.specs.Layout as entry;
@@ -12,7 +14,7 @@ mod challenges;
 mod tokens;
 
 // What the host read in a private token, less its addresses, which are lent as words. A timeout is the 32 bits of the token's i32.
-#[derive(Drop)]
+#[derive(Clone, Copy)]
 pub struct PrivateConnectToken {
     pub client_id: u64,
     pub timeout_seconds: u32,

@@ -1,5 +1,7 @@
 // Connected pumps, kept alive, written to, given up and sent away, as a person would follow it. The host's answers are stored. Every
 // line says what came out of our functions, and whether it is what it should be.
+#![tactic(auto)]
+
 use addresses::Address;
 use libc::STDOUT_FILENO;
 use records::Connection;
@@ -15,7 +17,7 @@ const MOST: u64 = 0xffff_ffff_ffff_ffff;
 const MINUS_ONE: u32 = 4294967295;
 
 // All that the host keeps between two calls, by value: a scene may go on from any of them.
-#[derive(Drop)]
+#[derive(Clone, Copy)]
 struct World {
     server: NetcodeServer,
     slots: [u64; 930],
@@ -23,7 +25,7 @@ struct World {
 }
 
 // What a call left, its answer in nine words, the part that the host is asked to seal, and the output's first nine bytes.
-#[derive(Drop)]
+#[derive(Clone, Copy)]
 struct Said {
     world: World,
     words: [u64; 9],

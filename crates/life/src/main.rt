@@ -1,6 +1,8 @@
 // A pump's whole life, as a person would follow it: request, challenge, response, connected, payloads in and out of order, forged,
 // repeated and old ones, disconnect. The host's answers are stored. Every line says what came out of our functions, and
 // whether it is what it should be.
+#![tactic(auto)]
+
 use addresses::Address;
 use grants::PrivateConnectToken;
 use libc::STDOUT_FILENO;
@@ -24,7 +26,7 @@ const PAYLOAD: u8 = 0x25;
 const DISCONNECT: u8 = 0x26;
 
 // All that the host keeps between two calls, by value: a scene may go on from any of them.
-#[derive(Drop)]
+#[derive(Clone, Copy)]
 struct World {
     server: NetcodeServer,
     slots: [u64; 620],
@@ -33,7 +35,7 @@ struct World {
 }
 
 // What a call left, its answer in nine words, and the part that the host is asked to open or to seal.
-#[derive(Drop)]
+#[derive(Clone, Copy)]
 struct Said {
     world: World,
     words: [u64; 9],

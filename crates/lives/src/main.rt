@@ -1,6 +1,8 @@
 // Replays whole lives of servers, which stand in standard input, a call to a line, with what the Rust's server came to: netcode's
 // functions must come to the same, in every answer, ask, packet and table. What reads tokens and compares texts promises an equation
 // (`text`); the rest is safe and ends, and what it is worth is run.
+#![tactic(auto)]
+
 use report::COUNTS;
 use say::ROOM;
 use standing::SIZES;

@@ -1,5 +1,7 @@
 // The C interface: every entry point of the server on numbers, words and bytes that the host lends, for `include/netcode.h`. Nothing is
 // trusted: any record, any tables and any lengths get an answer.
+#![tactic(auto)]
+
 use bodies::PacketType;
 
 mod asking;
@@ -29,7 +31,7 @@ pub use sizes::{
 pub use standing::{netcode_set_max_clients, netcode_set_up, netcode_update};
 
 // What a look at a datagram shows: a packet of a slot that is to be opened, or anything else.
-#[derive(Drop)]
+#[derive(Clone, Copy)]
 pub enum Seen {
     Sealed {
         place: usize,

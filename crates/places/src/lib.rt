@@ -1,5 +1,7 @@
 // The tables of connections, `slots` and `pending`, lent as words of one layout: for n places n marks, n ids, n addresses of three
 // words, then n bodies, so that every search walks a few kilobytes. Here is what is in the columns; the bodies are `records`.
+#![tactic(auto)]
+
 ghost use Rattle.std.specs.Prelude.{◌≡◌, ◌<◌};
 ghost use Rattle.places.specs.Layout.{Shaped, count, places_refusal, used_at, id_of, address_of};
 

@@ -1,4 +1,6 @@
 // The head of a packet, its prefix byte and sequence bytes, and what the cipher is given beside the text.
+#![tactic(auto)]
+
 ghost use Rattle.std.specs.Prelude.{◌≡◌, ◌+◌, ◌≤◌, length};
 ghost use Rattle.serialize.specs.Runs.{part, splice};
 ghost use Rattle.serialize.specs.Le.{of_le, to_le};
@@ -8,14 +10,14 @@ ghost use Rattle.prefix.specs.Sealed.{additional_data, token_additional_data, pa
 pub const NETCODE_VERSION_INFO: [u8; 13] = *b"NETCODE 1.02\0";
 
 // What a prefix byte says: the packet's type, and how many sequence bytes follow.
-#[derive(Drop)]
+#[derive(Clone, Copy)]
 pub struct Prefix {
     pub kind: u8,
     pub count: usize,
 }
 
 // What a reader makes of a sequence's bytes: the number; or a count that no sequence has; or a source that ends before them.
-#[derive(Drop)]
+#[derive(Clone, Copy)]
 pub enum Sequence {
     Number(u64),
     TooLong,

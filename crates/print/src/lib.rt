@@ -1,4 +1,6 @@
 // A line for each figure.
+#![tactic(auto)]
+
 ghost use Rattle.std.specs.Prelude.{◌≡◌, ◌≤◌, ◌<◌, eqb};
 ghost use Rattle.serialize.specs.Runs.{alike};
 ghost use Rattle.print.specs.Verdict.{bit};

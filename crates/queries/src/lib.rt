@@ -1,5 +1,7 @@
 // The queries: what a host may ask the server at any time, also while an ask is open. They change nothing but the list that they
 // fill; a table whose length is not set-up's is 23, a list that is too short 14.
+#![tactic(auto)]
+
 use addresses::Address;
 use times::Time;
 
@@ -15,7 +17,7 @@ pub use lists::{addresses, clients_id, clients_slot};
 pub use server_itself::{current_time, max_clients};
 
 // What a query comes to. An id that is not connected is `Nothing`.
-#[derive(Drop)]
+#[derive(Clone, Copy)]
 pub enum Reply {
     Refused(u8),
     Nothing,

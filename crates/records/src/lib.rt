@@ -1,5 +1,7 @@
 // A connection's record in its place of a table: its fields read and written where they lie, and whole records put in, taken out and
 // moved from one table to another.
+#![tactic(auto)]
+
 use addresses::Address;
 use replay_protection::ReplayProtection;
 use times::Time;
@@ -16,7 +18,7 @@ pub use whole::{empty, empty_all, fill, move_record};
 
 // The Rust's `Connection`, less its state: a record in `slots` is connected, one in `pending` waits for its response. A timeout is
 // the 32 bits of the token's i32.
-#[derive(Drop)]
+#[derive(Clone, Copy)]
 pub struct Connection {
     pub confirmed: bool,
     pub client_id: u64,

@@ -1,6 +1,8 @@
 // Replays a sample of the Rust's answers, which stands in standard input, a call to a line: our functions must give the same. Each line
 // is then replayed with one digit changed right of its sign, which must be noticed: a comparison that can't fail would show nothing. What
 // reads and compares tokens promises an equation (`text`, `words::same`); the rest is safe and ends, and what it is worth is run.
+#![tactic(auto)]
+
 ghost use Rattle.std.specs.Prelude.{◌<◌, ◌≤◌};
 
 use libc::STDOUT_FILENO;

@@ -1,5 +1,7 @@
 // The replay window of replay_protection.rs: which sequences a connection has accepted. Its facts are proved over any width;
 // the code has the Rust's, 256.
+#![tactic(auto)]
+
 ghost use Rattle.std.specs.Prelude.{◌≡◌, ◌-◌, ◌%◌, max};
 ghost use Rattle.replay_protection.specs.Replay.{fresh, behind, repeated, spent, refusal_by, refuses, refusal, arrive};
 ghost use Rattle.replay_protection.specs.Ours.{width, window_of, protection};
@@ -18,7 +20,7 @@ const EMPTY: u64 = 0xffff_ffff_ffff_ffff;
 const LAST: u64 = EMPTY - NETCODE_REPLAY_BUFFER_SIZE as u64;
 
 // The highest sequence accepted, and a place for each remainder, with the last sequence accepted there.
-#[derive(Drop)]
+#[derive(Clone, Copy)]
 pub struct ReplayProtection {
     pub most_recent_sequence: u64,
     pub received_packet: [u64; NETCODE_REPLAY_BUFFER_SIZE],

@@ -1,4 +1,6 @@
 // The host's answer to an ask to seal.
+#![tactic(auto)]
+
 ghost use Rattle.std.specs.Prelude.{◌≡◌, false, length};
 ghost use Rattle.places.specs.Layout.{Shaped};
 ghost use Rattle.server.specs.Ready.{misfits};

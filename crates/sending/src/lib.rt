@@ -1,4 +1,6 @@
 // What the server sends of its own accord: payloads, keep-alives, and the packets that end a connection.
+#![tactic(auto)]
+
 ghost use Rattle.std.specs.Prelude.{◌≡◌};
 ghost use Rattle.sending.specs.Packets.{ready_refusal};
 

@@ -1,5 +1,7 @@
 // Little-endian numbers and runs of bytes and words at a place of a lent slice. Every function asks only that its runs lie
 // inside their slices, and says of each slice exactly what it holds at the end.
+#![tactic(auto)]
+
 mod bytes;
 mod number;
 mod words;
@@ -9,7 +11,7 @@ pub use number::{read_u16, read_u32, read_u64, write_u16, write_u32, write_u64};
 pub use words::{copy_words, pack_words, unpack_words, zero_words};
 
 // What a search answers: the lowest place, or that there is none.
-#[derive(Drop)]
+#[derive(Clone, Copy)]
 pub enum Found {
     At(usize),
     Nothing,

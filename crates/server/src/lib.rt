@@ -1,4 +1,6 @@
 // The server's own record, its answers and its asks: what every call of the server is told in, and the tests that the calls share.
+#![tactic(auto)]
+
 use addresses::Address;
 use asks::Work;
 use bodies::PacketType;
@@ -22,7 +24,7 @@ pub use ready::{
 pub use rebuild::{with_ask, with_clock, with_counters, with_limit};
 
 // What set-up fixed. `slots`, `pending` and `entries` are numbers of places, `addresses` one of public addresses.
-#[derive(Drop)]
+#[derive(Clone, Copy)]
 pub struct SetUp {
     pub protocol_id: u64,
     pub connect_key: [u8; 32],
@@ -34,7 +36,7 @@ pub struct SetUp {
     pub addresses: usize,
 }
 
-#[derive(Drop)]
+#[derive(Clone, Copy)]
 pub struct Counters {
     pub global_sequence: u64,
     pub challenge_sequence: u64,
@@ -42,7 +44,7 @@ pub struct Counters {
 
 // What a sealed packet is for, and so what its yes does: denied; a challenge's token, and then the packet around it; the keep-alive
 // that connects the pump at a pending place; a payload or keep-alive of a slot; a disconnect of a slot that is emptied already.
-#[derive(Drop)]
+#[derive(Clone, Copy)]
 pub enum Goal {
     Denied { addr: Address },
     ChallengeToken { addr: Address },
@@ -54,7 +56,7 @@ pub enum Goal {
 
 // Which step goes on when the host answers, and what that step needs. A packet's place is a slot's if it came from a connected
 // address, else a pending one's; of a seal `sequence` is the counter that was used, `end` the length of the packet in the output.
-#[derive(Drop)]
+#[derive(Clone, Copy)]
 pub enum Stage {
     Idle,
     Packet {
@@ -82,7 +84,7 @@ pub enum Stage {
 }
 
 // The open ask, and how long the buffers were that its call was lent.
-#[derive(Drop)]
+#[derive(Clone, Copy)]
 pub struct OpenAsk {
     pub stage: Stage,
     pub datagram: usize,
@@ -90,7 +92,7 @@ pub struct OpenAsk {
 }
 
 // The Rust's `NetcodeServer`, less what the host lends: tables, public addresses and output.
-#[derive(Drop)]
+#[derive(Clone, Copy)]
 pub struct NetcodeServer {
     pub set: SetUp,
     pub max_clients: usize,
@@ -101,7 +103,7 @@ pub struct NetcodeServer {
 
 // What a call comes to, the Rust's `ServerResult` with its refusals numbered. A packet to send stands in the output up to `end`, a
 // payload in the datagram from `start` to `end`. A record that ended without a packet has `end` 0, and 15 or 24 where that is why.
-#[derive(Drop)]
+#[derive(Clone, Copy)]
 pub enum Answer {
     Refused(u8),
     Nothing,
@@ -130,13 +132,13 @@ pub enum Answer {
 }
 
 // The record as a call leaves it, and what the call comes to.
-#[derive(Drop)]
+#[derive(Clone, Copy)]
 pub struct Step {
     pub server: NetcodeServer,
     pub answer: Answer,
 }
 
-#[derive(Drop)]
+#[derive(Clone, Copy)]
 pub enum Buffer {
     Datagram,
     Output,
@@ -144,7 +146,7 @@ pub enum Buffer {
 
 // What the host is asked for: to open or to seal, in place, the part of a buffer from start to end, tag and all, under a key, with
 // the first `nonce_size` bytes of the nonce (12, of a private token 24) and the first `size` of the additional data (22, 0, 29).
-#[derive(Drop)]
+#[derive(Clone, Copy)]
 pub struct Ask {
     pub work: Work,
     pub buffer: Buffer,

@@ -1,5 +1,7 @@
 // The server from set-up through its clock, as a person would follow it: what set-up refuses, how long a pending pump waits, what the
 // queries say, what an open ask holds up. Every line says what came out of our functions, and whether it is what it should be.
+#![tactic(auto)]
+
 use addresses::Address;
 use libc::STDOUT_FILENO;
 use queries::Reply;

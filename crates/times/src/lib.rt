@@ -1,5 +1,7 @@
 // Times as seconds and nanoseconds, of any two words: a time counts as its whole nanoseconds, and every sum, comparison and
 // difference is of those, exact, though they pass 64 bits.
+#![tactic(auto)]
+
 ghost use Rattle.std.specs.Prelude.{◌≡◌, ◌+◌, ◌*◌, ◌-◌, ◌<◌, ◌≤◌, min, ltb};
 ghost use Rattle.times.specs.Times.{whole, zero, added, before, past, due, since, settled, borrowed};
 
@@ -14,14 +16,14 @@ const MOST: u64 = 0xffff_ffff_ffff_ffff;
 // The send interval, 250 ms, less the nanosecond that turns "at most" into "below".
 const SHORT_OF_SEND_RATE: u32 = 249_999_999;
 
-#[derive(Drop)]
+#[derive(Clone, Copy)]
 pub struct Time {
     pub secs: u64,
     pub nanos: u64,
 }
 
 // A clock that has been moved on, or that would pass its range (refusal 20).
-#[derive(Drop)]
+#[derive(Clone, Copy)]
 pub enum Added {
     Clock(Time),
     OutOfRange,

@@ -1,4 +1,6 @@
 // What the calls about a datagram have in common: how they end, and the packets that they write.
+#![tactic(auto)]
+
 ghost use Rattle.std.specs.Prelude.{◌≡◌};
 ghost use Rattle.turns.specs.Outcomes.{answered, refused, closed, asking, open_refusal};
 
@@ -15,7 +17,7 @@ pub const NETCODE_MAX_PACKET_BYTES: usize = 1400;
 pub const MOST: u64 = 0xffff_ffff_ffff_ffff;
 
 // The record as a call leaves it, what the call comes to, and, where that is an ask, what the host is asked for.
-#[derive(Drop)]
+#[derive(Clone, Copy)]
 pub struct Turn {
     pub server: NetcodeServer,
     pub answer: Answer,

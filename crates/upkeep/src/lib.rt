@@ -1,4 +1,6 @@
 // Set-up, the clock and the limit: what the server does that takes no datagram and no cipher.
+#![tactic(auto)]
+
 use server::NetcodeServer;
 use times::Time;
 
@@ -12,7 +14,7 @@ pub use setup::set_up;
 
 // The Rust's `ServerConfig`. The challenge key is the caller's; where the server is not secure the connect key is zeros, whatever
 // stands here.
-#[derive(Drop)]
+#[derive(Clone, Copy)]
 pub struct ServerConfig {
     pub current_time: Time,
     pub max_clients: usize,
@@ -24,7 +26,7 @@ pub struct ServerConfig {
 
 // What set-up comes to: 0 and the record; or a refusal, and a record of no places, with which every call that is lent a table of
 // connections is 23.
-#[derive(Drop)]
+#[derive(Clone, Copy)]
 pub struct Started {
     pub refusal: u8,
     pub server: NetcodeServer,

@@ -1,0 +1,12 @@
+-- Three runs, each right after the one before it.
+use mathlib.Core.Path.{◌≡◌}
+use lib.ListN.{length}
+use Rattle.bodies.proofs.Fields.{challenge_written}
+use borrow.Author.Rules.{rules}
+use Rattle.bodies.proofs.challenge.ChallengeToken.write.Goals as goal
+
+pub returns : goal.returns
+returns c =
+    let a = c.args in
+    let k : length a.t1.user_data ≡ 256 = search rules in
+    challenge_written a.out.now a.at _ _ _ a.t1.client_id a.t1.user_data c.requires k c.write_u64.ensures c.copy_bytes.ensures c.zero_bytes.ensures

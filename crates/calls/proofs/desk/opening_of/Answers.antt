@@ -1,0 +1,18 @@
+-- Nothing is open where the code is 0 or no type has it.
+use mathlib.Core.Path.{sym}
+use borrow.Author.Tests.{eq-eqb, ne_eqb}
+use Rattle.serialize.specs.Choice.{pick}
+use Rattle.calls.specs.Desk.{opening_of}
+use Rattle.calls.proofs.desk.opening_of.Goals as goal
+
+pub returns-then-kept-eq0 : goal.returns-then-kept-eq0
+unfolding opening_of pick
+returns-then-kept-eq0 c = simp (eq-eqb c.args.kept.code 0 c.if-kept-eq0.true)
+
+pub returns-in-Known : goal.returns-in-Known
+unfolding opening_of pick
+returns-in-Known c = let s = c.args in simp (ne_eqb s.kept.code 0 c.if-kept-eq0.false, sym c.kept_type.ensures, c.in-Known.is)
+
+pub returns-in-Invalid : goal.returns-in-Invalid
+unfolding opening_of pick
+returns-in-Invalid c = let s = c.args in simp (ne_eqb s.kept.code 0 c.if-kept-eq0.false, sym c.kept_type.ensures, c.in-Invalid.is)

@@ -1,0 +1,14 @@
+-- What `encode` answers, laid out; a type over 6 is no packet.
+use mathlib.Core.Path.{sym, ◌∙◌}
+use Rattle.calls.proofs.Laid.{encode_laid, untyped_laid}
+use Rattle.calls.proofs.packets.pump_encode.Goals as goal
+
+pub returns-in-Known : goal.returns-in-Known
+returns-in-Known c =
+    let a = c.args in
+    encode_laid _ _ _ c.encode-encoded.result _ _ _ a.out.now a.kind a.a a.b a.bytes.now a.protocol_id a.keyed a.key.now a.sequence (sym c.from_u8.ensures ∙ c.in-Known.is) c.packet_of-packet.ensures c.key_of.ensures c.encode-encoded.ensures c.encoded_desk.ensures c.told_of.ensures
+
+pub returns-in-Invalid : goal.returns-in-Invalid
+returns-in-Invalid c =
+    let a = c.args in
+    untyped_laid _ a.out.now a.kind a.a a.b a.bytes.now a.protocol_id a.keyed a.key.now a.sequence (sym c.from_u8.ensures ∙ c.in-Invalid.is) c.refused_desk.ensures

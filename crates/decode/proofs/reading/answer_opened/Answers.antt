@@ -1,0 +1,39 @@
+-- Each way out is a case of the definition.
+use mathlib.Core.Path.{ap, ap₂, ◌∙◌}
+use Prim.Native.Nat.{◌-◌}
+use native.Mathlib.Omega.{arith}
+use lib.ListN.{length}
+use Rattle.serialize.specs.Choice.{pick}
+use Rattle.asks.specs.declared.Ask.{Ask}
+use Rattle.decode.specs.declared.Decoding.TheVariants as decoding
+use Rattle.decode.specs.declared.Opening.TheVariants as opening
+use Rattle.asks.specs.Asks.{unlike}
+use Rattle.decode.specs.Decodes.{decoded_as, ended, answer_opened}
+use Rattle.asks.proofs.Lent.{told, like_means}
+use Rattle.decode.proofs.reading.answer_opened.Goals as goal
+
+pub returns-then-unlike : goal.returns-then-unlike
+unfolding answer_opened pick
+returns-then-unlike c =
+    let s = c.args in
+    ap (λ (a : Ask). decoded_as (decoding.Refused 18) a (opening.Open s.kind s.sequence s.start s.len) s.guard) c.no_ask.ensures ∙ simp (told c.unlike.ensures c.if-unlike.true)
+
+pub overflow_sub-len : goal.overflow_sub-len
+overflow_sub-len c =
+    let s = c.args in
+    let l = like_means s.start 16 s.len (length s.datagram.now) (told c.unlike.ensures c.if-unlike.false) in
+    omega arith
+
+pub read_opened-requires : goal.read_opened-requires
+read_opened-requires c =
+    let s = c.args in
+    let l = like_means s.start 16 s.len (length s.datagram.now) (told c.unlike.ensures c.if-unlike.false) in
+    (omega arith, omega arith)
+
+pub returns-then-granted : goal.returns-then-granted
+unfolding answer_opened pick
+returns-then-granted c = c.ended.ensures ∙ ap₂ ended c.read_opened.ensures c.guard_accepts-accepted.ensures ∙ simp (told c.unlike.ensures c.if-unlike.false, c.if-granted.true)
+
+pub returns : goal.returns
+unfolding answer_opened pick
+returns c = c.ended-2.ensures ∙ simp (told c.unlike.ensures c.if-unlike.false, c.if-granted.false)

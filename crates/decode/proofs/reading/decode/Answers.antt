@@ -1,0 +1,21 @@
+-- The type says how it goes on.
+use mathlib.Core.Path.{sym, ap, ◌∙◌}
+use Prim.Native.Nat.{◌-◌}
+use Rattle.decode.specs.Decodes.{ended, by_kind, decode}
+use Rattle.decode.proofs.Ways.{typed_long}
+use Rattle.decode.proofs.reading.decode.Goals as goal
+
+pub decode_of-requires : goal.decode_of-requires
+decode_of-requires c = typed_long _ _ (sym c.read_type.ensures ∙ c.in-Of.is)
+
+pub returns-in-Refused : goal.returns-in-Refused
+unfolding decode
+returns-in-Refused c =
+    let s = c.args in
+    c.ended.ensures ∙ ap (by_kind s.datagram.now s.protocol_id s.private_key s.guard) (sym c.in-Refused.is ∙ c.read_type.ensures)
+
+pub returns-in-Of : goal.returns-in-Of
+unfolding decode
+returns-in-Of c =
+    let s = c.args in
+    c.decode_of.ensures ∙ ap (by_kind s.datagram.now s.protocol_id s.private_key s.guard) (sym c.in-Of.is ∙ c.read_type.ensures)

@@ -1,0 +1,11 @@
+-- The bytes so far stand at the start.
+use Rattle.std.proofs.Common.{◌-◌}
+use Rattle.serialize.proofs.Loops.{Filled}
+use Rattle.lives.specs.Text.{unhex}
+use Rattle.lives.proofs.text.fill.Given as goal
+
+abbrev pub invariant-loop-k : goal.invariant-loop-k
+invariant-loop-k l = Filled l.initial.out 0 (unhex l.n l.word) l.n l.out l.k
+
+abbrev pub decreases-loop-k : goal.decreases-loop-k
+decreases-loop-k l = l.n - l.k

@@ -1,0 +1,18 @@
+-- The short way, where nothing refuses the payload, and the general way come to the same.
+use lib.ListN.{length}
+use Rattle.netcode.specs.Told.{desk}
+use Rattle.netcode.proofs.Speaks.{sends_at, payload-spoken}
+use Rattle.netcode.proofs.clients.netcode_generate_payload_packet.Goals as goal
+
+pub send_payload-requires : goal.send_payload-requires
+send_payload-requires c =
+    let a = c.args in
+    let h = sends_at a.words.now a.client_id (length a.payload.now) a.slots.now (length a.out.now) _ c.can_send.ensures _ c.in-At.is in
+    (h.shape, h.place, h.room.room)
+
+pub returns-in-At : goal.returns-in-At
+returns-in-At c =
+    let a = c.args in
+    payload-spoken a.words.now a.slots.now a.payload.now a.out.now _ a.answer.now a.ask.now a.client_id
+    (sends_at a.words.now a.client_id (length a.payload.now) a.slots.now (length a.out.now) _ c.can_send.ensures _ c.in-At.is)
+    (desk c.send_payload.new.words c.send_payload.new.1.1.1.1.1.0 c.send_payload.new.1.1.1.1.1.1.0) c.send_payload.new.1.1.1.1.0 c.send_payload.ensures

@@ -1,0 +1,5 @@
+-- The address has its own words.
+use Rattle.netcode.proofs.stages.token_words.Goals as goal
+
+pub returns : goal.returns
+returns c = simp c.first_word.ensures

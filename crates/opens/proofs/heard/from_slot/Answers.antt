@@ -1,0 +1,19 @@
+-- The window moved, and the body decides: short, or whole, and then the packet acts on the slot with its received time set.
+use mathlib.Core.Path.{◌∙◌}
+use Rattle.opens.proofs.Ways.{slot_whole, slot-short}
+use Rattle.opens.proofs.heard.from_slot.Goals as goal
+
+pub shape_of-slots-in-Whole : goal.shape_of-slots-in-Whole
+shape_of-slots-in-Whole c = c.slot_says.auto.1.0 ∙ c.set_received_time.auto.t ∙ c.accept.auto.table
+
+pub returns-in-Whole : goal.returns-in-Whole
+returns-in-Whole c =
+    let a = c.args in
+    slot_whole a.server a.slots.now a.i a.kind a.sequence a.start a.datagram.now _ _ c.read.ensures c.accept.ensures _
+    c.in-Whole.is _ c.set_received_time.ensures _ c.slot_says.ensures
+
+pub returns-in-Short : goal.returns-in-Short
+returns-in-Short c =
+    let a = c.args in
+    slot-short a.server a.slots.now a.i a.kind a.sequence a.start a.datagram.now _ _ c.read.ensures c.accept.ensures
+    c.in-Short.is _ c.closed.ensures

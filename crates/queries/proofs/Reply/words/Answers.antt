@@ -1,0 +1,31 @@
+-- Each arm is a case of the definition.
+use Rattle.queries.specs.Replies.{words_of}
+use Rattle.queries.proofs.Reply.words.Goals as goal
+
+pub returns-in-Refused : goal.returns-in-Refused
+unfolding words_of
+returns-in-Refused c = simp c.in-Refused.is
+
+pub returns-in-Nothing : goal.returns-in-Nothing
+unfolding words_of
+returns-in-Nothing c = simp c.in-Nothing.is
+
+pub returns-in-Connected : goal.returns-in-Connected
+unfolding words_of
+returns-in-Connected c = simp c.in-Connected.is
+
+pub returns-in-Count : goal.returns-in-Count
+unfolding words_of
+returns-in-Count c = simp c.in-Count.is
+
+pub returns-in-Addr : goal.returns-in-Addr
+unfolding words_of
+returns-in-Addr c = simp (c.in-Addr.is, c.first_word.ensures)
+
+pub returns-in-Since : goal.returns-in-Since
+unfolding words_of
+returns-in-Since c = simp c.in-Since.is
+
+pub returns-in-UserData : goal.returns-in-UserData
+unfolding words_of
+returns-in-UserData c = simp c.in-UserData.is

@@ -1,0 +1,13 @@
+-- The highest and the place of the sequence decide.
+use mathlib.Core.Path.{ap, ◌∙◌}
+use Prim.Native.Nat.{ℕ}
+use lib.ListN.{get_or}
+use Rattle.replay_protection.specs.Replay.{spent}
+use Rattle.replay_protection.specs.Ours.{width, window_of}
+use Rattle.replay_protection.proofs.ReplayProtection.already_received.Goals as goal
+
+pub returns : goal.returns
+returns c =
+    let win = window_of c.args.t1 in
+    let s = c.args.sequence in
+    c.is_spent.ensures ∙ ap (λ (i : ℕ). spent width win.most (get_or win.ring i 0) s) c.index.ensures

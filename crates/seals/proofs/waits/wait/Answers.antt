@@ -1,0 +1,31 @@
+-- By what the search for the address gave.
+use mathlib.Core.Path.{sym, ◌∙◌}
+use Prim.Native.Nat.{◌<◌}
+use Rattle.places.proofs.Searches.{address_found}
+use Rattle.seals.proofs.Ways.{times-move, newcomer-waits}
+use borrow.Author.Rules.{rules}
+use Rattle.seals.proofs.waits.wait.Goals as goal
+
+pub set_received_time-requires : goal.set_received_time-requires
+set_received_time-requires c =
+    let a = c.args in
+    (c.requires, ((address_found a.pending.now a.m c.requires a.addr _).0 (sym c.find_by_address.ensures ∙ c.in-At.is)).below)
+
+pub set_sent_time-requires : goal.set_sent_time-requires
+set_sent_time-requires c =
+    let a = c.args in
+    let j = c.in-At.j in
+    let b : j < a.m = ((address_found a.pending.now a.m c.requires a.addr j).0 (sym c.find_by_address.ensures ∙ c.in-At.is)).below in
+    search rules
+
+pub returns-in-At : goal.returns-in-At
+returns-in-At c =
+    let a = c.args in
+    times-move a.pending.now a.m a.held.now a.addr a.time _ c.find_by_address.ensures
+    _ c.in-At.is _ c.set_received_time.ensures _ c.set_sent_time.ensures
+
+pub returns-in-Nothing : goal.returns-in-Nothing
+returns-in-Nothing c =
+    let a = c.args in
+    newcomer-waits a.pending.now a.m a.held.now a.addr a.time _ c.find_by_address.ensures
+    c.in-Nothing.is _ c.take_place.ensures

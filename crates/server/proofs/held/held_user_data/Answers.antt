@@ -1,0 +1,7 @@
+-- The bytes are copied over the whole of a local array.
+use Rattle.server.proofs.Pieces.{copied}
+use borrow.Author.Rules.{rules}
+use Rattle.server.proofs.held.held_user_data.Goals as goal
+
+pub returns : goal.returns
+returns c = copied _ c.args.held.now 84 256 c.copy_bytes.ensures (search rules) (search rules)
