@@ -22,9 +22,10 @@ returns-in-Packet c =
 
 pub returns-else-is_foreign : goal.returns-else-is_foreign
 returns-else-is_foreign c =
+    let l = c.consider.new.pending in
     let a = c.args in
     token-considered a.server a.token a.list.now a.slots.now a.pending.now a.entries.now a.public.now a.held.now a.out.now a.datagram
-    a.server.ask.stage _ _ _ _ c.in-Token.is _ c.is_foreign.ensures c.if-is_foreign.false c.consider.result c.consider.new.1.1.1.1.1.1.1.1.0 c.consider.new.1.1.1.1.1.1.1.1.1.0 c.consider.new.1.1.1.1.1.1.1.1.1.1.0 c.consider.new.1.1.1.1.1.1.1.1.1.1.1.0 c.consider.ensures
+    a.server.ask.stage _ _ _ _ c.in-Token.is _ c.is_foreign.ensures c.if-is_foreign.false c.consider.result l c.consider.new.entries c.consider.new.held c.consider.new.out c.consider.ensures
 
 pub returns-in-Challenge : goal.returns-in-Challenge
 returns-in-Challenge c =

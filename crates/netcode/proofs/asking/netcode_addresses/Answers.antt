@@ -8,4 +8,4 @@ pub returns : goal.returns
 returns c =
     let a = c.args in
     filled a.words.now c.read.result c.read.ensures (λ (s : NetcodeServer). public_into s a.public_addresses.now a.list.now)
-    c.addresses-told.result c.addresses-told.new.1.1.0 c.addresses-told.ensures c.words.result c.words.ensures
+    c.addresses-told.result c.addresses-told.new.list c.addresses-told.ensures c.words.result c.words.ensures

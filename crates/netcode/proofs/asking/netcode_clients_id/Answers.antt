@@ -9,4 +9,4 @@ pub returns : goal.returns
 returns c =
     let a = c.args in
     filled a.words.now c.read.result c.read.ensures (λ (s : NetcodeServer). listed_into s a.slots.now true a.list.now)
-    c.clients_id-told.result c.clients_id-told.new.1.1.0 c.clients_id-told.ensures c.words.result c.words.ensures
+    c.clients_id-told.result c.clients_id-told.new.list c.clients_id-told.ensures c.words.result c.words.ensures

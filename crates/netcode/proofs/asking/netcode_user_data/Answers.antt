@@ -8,4 +8,4 @@ pub returns : goal.returns
 returns c =
     let a = c.args in
     filled a.words.now c.read.result c.read.ensures (λ (s : NetcodeServer). user_data_of s a.slots.now a.client_id a.out.now)
-    c.user_data-told.result c.user_data-told.new.1.1.1.0 c.user_data-told.ensures c.words.result c.words.ensures
+    c.user_data-told.result c.user_data-told.new.out c.user_data-told.ensures c.words.result c.words.ensures

@@ -9,5 +9,5 @@ pub returns : goal.returns
 returns c =
     let a = c.args in
     spoken a.words.now c.read.result c.read.ensures (desk a.words.now a.answer.now a.ask.now)
-    (desk c.lay_turn.new.answer c.lay_turn.new.told c.lay_turn.new.1.1.1.0) c.generate_payload_packet-turn.result c.lay_turn.ensures
-    (λ (s : NetcodeServer). generated s a.slots.now a.client_id a.payload.now a.out.now) c.generate_payload_packet-turn.new.1.1.1.1.0 c.generate_payload_packet-turn.ensures
+    (desk c.lay_turn.new.words c.lay_turn.new.answer c.lay_turn.new.told) c.generate_payload_packet-turn.result c.lay_turn.ensures
+    (λ (s : NetcodeServer). generated s a.slots.now a.client_id a.payload.now a.out.now) c.generate_payload_packet-turn.new.out c.generate_payload_packet-turn.ensures

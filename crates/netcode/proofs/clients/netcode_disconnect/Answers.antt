@@ -9,5 +9,5 @@ pub returns : goal.returns
 returns c =
     let a = c.args in
     served a.words.now c.read.result c.read.ensures (desk a.words.now a.answer.now a.ask.now)
-    (desk c.lay_turn.new.answer c.lay_turn.new.told c.lay_turn.new.1.1.1.0) c.disconnect-turn.result c.lay_turn.ensures
-    (λ (s : NetcodeServer). disconnected s a.slots.now a.client_id a.out.now) c.disconnect-turn.new.1.1.0 c.disconnect-turn.new.1.1.1.0 c.disconnect-turn.ensures
+    (desk c.lay_turn.new.words c.lay_turn.new.answer c.lay_turn.new.told) c.disconnect-turn.result c.lay_turn.ensures
+    (λ (s : NetcodeServer). disconnected s a.slots.now a.client_id a.out.now) c.disconnect-turn.new.slots c.disconnect-turn.new.out c.disconnect-turn.ensures

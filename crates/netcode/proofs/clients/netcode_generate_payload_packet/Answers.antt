@@ -15,4 +15,4 @@ returns-in-At c =
     let a = c.args in
     payload-spoken a.words.now a.slots.now a.payload.now a.out.now _ a.answer.now a.ask.now a.client_id
     (sends_at a.words.now a.client_id (length a.payload.now) a.slots.now (length a.out.now) _ c.can_send.ensures _ c.in-At.is)
-    (desk c.send_payload.new.words c.send_payload.new.1.1.1.1.1.0 c.send_payload.new.1.1.1.1.1.1.0) c.send_payload.new.1.1.1.1.0 c.send_payload.ensures
+    (desk c.send_payload.new.words c.send_payload.new.answer c.send_payload.new.ask) c.send_payload.new.out c.send_payload.ensures

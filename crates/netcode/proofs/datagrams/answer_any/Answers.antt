@@ -11,5 +11,5 @@ pub returns : goal.returns
 returns c =
     let a = c.args in
     opened a.words.now c.read.result c.read.ensures (desk a.words.now a.answer.now a.ask.now)
-    (desk c.lay_turn.new.answer c.lay_turn.new.told c.lay_turn.new.1.1.1.0) c.answer_open-turn.result c.lay_turn.ensures
-    (λ (s : NetcodeServer). opens (state s a.slots.now a.pending.now) (yes? a.granted) a.held.now a.out.now a.datagram.now) c.answer_open-turn.new.held c.answer_open-turn.new.out c.answer_open-turn.new.1.1.1.1.0 c.answer_open-turn.new.1.1.1.1.1.0 c.answer_open-turn.ensures
+    (desk c.lay_turn.new.words c.lay_turn.new.answer c.lay_turn.new.told) c.answer_open-turn.result c.lay_turn.ensures
+    (λ (s : NetcodeServer). opens (state s a.slots.now a.pending.now) (yes? a.granted) a.held.now a.out.now a.datagram.now) c.answer_open-turn.new.slots c.answer_open-turn.new.pending c.answer_open-turn.new.held c.answer_open-turn.new.out c.answer_open-turn.ensures

@@ -12,5 +12,5 @@ pub returns : goal.returns
 returns c =
     let a = c.args in
     arrived a.words.now c.read.result c.read.ensures (desk a.words.now a.answer.now a.ask.now)
-    (desk c.lay_turn.new.answer c.lay_turn.new.told c.lay_turn.new.1.1.1.0) c.answer_seal-turn.result c.lay_turn.ensures
-    (λ (s : NetcodeServer). seals (state s a.slots.now a.pending.now) (yes? a.granted) a.held.now (length a.out.now)) c.answer_seal-turn.new.1.1.0 c.answer_seal-turn.new.1.1.1.0 c.answer_seal-turn.ensures
+    (desk c.lay_turn.new.words c.lay_turn.new.answer c.lay_turn.new.told) c.answer_seal-turn.result c.lay_turn.ensures
+    (λ (s : NetcodeServer). seals (state s a.slots.now a.pending.now) (yes? a.granted) a.held.now (length a.out.now)) c.answer_seal-turn.new.slots c.answer_seal-turn.new.pending c.answer_seal-turn.ensures

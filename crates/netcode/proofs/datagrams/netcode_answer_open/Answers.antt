@@ -10,5 +10,5 @@ hear-requires c = let h = c.is_payload.ensures c.if-is_payload.true in (h.shape,
 pub returns-then-is_payload : goal.returns-then-is_payload
 returns-then-is_payload c =
     let a = c.args in
-    heard_told (desk a.words.now a.answer.now a.ask.now) (desk c.hear.new.words c.hear.new.ask c.hear.new.1.1.1.1.0) a.granted a.slots.now c.hear.new.slots
+    heard_told (desk a.words.now a.answer.now a.ask.now) (desk c.hear.new.words c.hear.new.answer c.hear.new.ask) a.granted a.slots.now c.hear.new.slots
     a.pending.now a.held.now a.out.now a.datagram.now (c.is_payload.ensures c.if-is_payload.true) c.hear.ensures

@@ -18,7 +18,7 @@ ask_open-requires c =
 pub returns-in-Sealed : goal.returns-in-Sealed
 returns-in-Sealed c =
     let a = c.args in
-    seen_told (desk a.words.now a.answer.now a.ask.now) (desk c.ask_open.new.words c.ask_open.new.1.1.1.1.1.1.1.1.0 c.ask_open.new.1.1.1.1.1.1.1.1.1.0) a.slots.now a.pending.now
+    seen_told (desk a.words.now a.answer.now a.ask.now) (desk c.ask_open.new.words c.ask_open.new.answer c.ask_open.new.ask) a.slots.now a.pending.now
     c.new-addr.result (length a.out.now) a.datagram.now c.look.result _ _ _ _ c.look.ensures c.in-Sealed.is c.ask_open.ensures
     ∙ ap (λ (x : Address). moved_as (desk a.words.now a.answer.now a.ask.now) (arrives (state (record_in a.words.now) a.slots.now a.pending.now) x (length a.out.now) a.datagram.now)) c.new-addr.ensures
 

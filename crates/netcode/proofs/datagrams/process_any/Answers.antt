@@ -11,6 +11,6 @@ pub returns : goal.returns
 returns c =
     let a = c.args in
     arrived a.words.now c.read.result c.read.ensures (desk a.words.now a.answer.now a.ask.now)
-    (desk c.lay_turn.new.answer c.lay_turn.new.told c.lay_turn.new.1.1.1.0) c.process_packet-turn.result c.lay_turn.ensures
-    (λ (s : NetcodeServer). arrives (state s a.slots.now a.pending.now) a.addr (length a.out.now) a.datagram.now) c.process_packet-turn.new.1.1.0 c.process_packet-turn.new.1.1.1.0
+    (desk c.lay_turn.new.words c.lay_turn.new.answer c.lay_turn.new.told) c.process_packet-turn.result c.lay_turn.ensures
+    (λ (s : NetcodeServer). arrives (state s a.slots.now a.pending.now) a.addr (length a.out.now) a.datagram.now) c.process_packet-turn.new.slots c.process_packet-turn.new.pending
     c.process_packet-turn.ensures

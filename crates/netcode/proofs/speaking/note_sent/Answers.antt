@@ -6,5 +6,5 @@ use Rattle.netcode.proofs.speaking.note_sent.Goals as goal
 pub returns : goal.returns
 returns c =
     let a = c.args in
-    sent_told a.words.now a.slots.now a.answer.now a.ask.now c.address-addr.result c.address-addr.ensures c.put_sent.new.1.0 c.put_sent.ensures
-    (desk c.lay_quiet.new.words c.lay_quiet.new.1.1.1.1.0 c.lay_quiet.new.1.1.1.1.1.0) c.lay_quiet.ensures
+    sent_told a.words.now a.slots.now a.answer.now a.ask.now c.address-addr.result c.address-addr.ensures c.put_sent.new.slots c.put_sent.ensures
+    (desk c.lay_quiet.new.words c.lay_quiet.new.answer c.lay_quiet.new.ask) c.lay_quiet.ensures

@@ -6,4 +6,4 @@ use Rattle.netcode.proofs.speaking.rest.Goals as goal
 pub returns : goal.returns
 returns c =
     let a = c.args in
-    rest_told a.words.now a.answer.now a.ask.now c.requires (desk c.lay_quiet.new.words c.lay_quiet.new.1.1.1.1.0 c.lay_quiet.new.1.1.1.1.1.0) c.lay_quiet.ensures
+    rest_told a.words.now a.answer.now a.ask.now c.requires (desk c.lay_quiet.new.words c.lay_quiet.new.answer c.lay_quiet.new.ask) c.lay_quiet.ensures

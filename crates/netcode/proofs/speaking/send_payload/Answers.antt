@@ -15,4 +15,4 @@ returns c =
     let a = c.args in
     payload-told a.words.now a.slots.now a.payload.now a.out.now a.i a.answer.now a.ask.now _ c.sequence-sequence.ensures _ c.send_key-key.ensures
     c.write_packet_with-wanted.result c.write_packet_with-wanted.new.out c.write_packet_with-wanted.ensures
-    (desk c.lay_asking.new.words c.lay_asking.new.1.1.1.1.1.1.0 c.lay_asking.new.1.1.1.1.1.1.1.0) c.lay_asking.ensures
+    (desk c.lay_asking.new.words c.lay_asking.new.answer c.lay_asking.new.ask) c.lay_asking.ensures

@@ -8,4 +8,4 @@ pub returns : goal.returns
 returns c =
     let a = c.args in
     limited_to a.words.now c.read.result c.read.ensures (λ (s : NetcodeServer). limited s a.max_clients)
-    c.set_max_clients-step.result c.set_max_clients-step.ensures a.answer.now c.lay_step.new.answer c.lay_step.new.1.1.0 c.lay_step.ensures
+    c.set_max_clients-step.result c.set_max_clients-step.ensures a.answer.now c.lay_step.new.words c.lay_step.new.answer c.lay_step.ensures

@@ -8,5 +8,5 @@ use Rattle.netcode.proofs.standing.netcode_set_up.Goals as goal
 pub returns : goal.returns
 returns c =
     let a = c.args in
-    ap (λ (x : List ℕ). started c.set_up-begun.result.refusal x c.set_up-begun.new.pending c.set_up-begun.new.entries c.set_up-begun.new.1.1.1.0) c.lay_whole.ensures
+    ap (λ (x : List ℕ). started c.set_up-begun.result.refusal x c.set_up-begun.new.slots c.set_up-begun.new.pending c.set_up-begun.new.entries) c.lay_whole.ensures
     ∙ ap (started_as a.words.now) c.set_up-begun.ensures

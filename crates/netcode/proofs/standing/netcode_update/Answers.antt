@@ -9,4 +9,4 @@ pub returns : goal.returns
 returns c =
     let a = c.args in
     moved_on a.words.now c.read.result c.read.ensures (λ (s : NetcodeServer). updated s a.pending.now (time a.secs a.nanos))
-    c.update-step.result c.update-step.new.1.0 c.update-step.ensures a.answer.now c.lay_step.new.answer c.lay_step.new.1.1.0 c.lay_step.ensures
+    c.update-step.result c.update-step.new.pending c.update-step.ensures a.answer.now c.lay_step.new.words c.lay_step.new.answer c.lay_step.ensures

@@ -20,5 +20,6 @@ returns c =
     let e = c.token.ensures in
     let p = c.put_bytes in
     let r = p.ensures.0 ∙ ap (λ (w : List ℕ). min (length w / 2) room) e in
-    let fits : p.result ≤ length c.put_bytes.new.1.0 = omega arith in
-    (r, p.ensures.1 ∙ ap (λ (w : List ℕ). splice a.out.now a.at (bytes_of room w)) e, (fits, omega (arith, length-take p.result c.put_bytes.new.1.0)))
+    let out = c.put_bytes.new.out in
+    let fits : p.result ≤ length out = omega arith in
+    (r, p.ensures.1 ∙ ap (λ (w : List ℕ). splice a.out.now a.at (bytes_of room w)) e, (fits, omega (arith, length-take p.result out)))
