@@ -18,7 +18,8 @@ import sys
 WORD = re.compile(r"[^\s(){}\[\],;.:=\"`|⌜⌝]+")
 HEAD = re.compile(r"^(?:(?:pub|abbrev|unfoldable|ruleset|data|record)\s+)+([^\s:(){}=]+)|^([^\s:(){}=.,]+)\s*:(?!:)|^(?:  )pub ([^\s:(){}=.,]+)\s*:")
 FIELD = re.compile(r"^\s+(?:pub )?([^\s:(){}λ.,]+)\s*:")
-BLOCK = re.compile(r"^(?:(?:pub|abbrev|unfoldable)\s+)*(?:data|record)\b")
+BLOCK = re.compile(r"^\s*(?:(?:pub|abbrev|unfoldable)\s+)*(?:data|record)\b")
+INNER = re.compile(r"^( +)(?:(?:pub|abbrev|unfoldable)\s+)*([^\s:(){}=.,]+)\s*:(?!:)")
 # Names whose first part is the older library's word for what is now another.
 WORDS = {"getD": "get_or", "get_d": "get_or"}
 
@@ -47,20 +48,28 @@ def snake_word(w):
 
 
 def declared():
-    heads, fields, locals_ = collections.Counter(), collections.Counter(), collections.Counter()
+    heads, fields = collections.Counter(), collections.Counter()
     for f in own_files():
-        inside = False
-        for line in open(f, encoding="utf-8"):
-            if line.startswith("--"):
+        text = open(f, encoding="utf-8").read()
+        inside, depth, section = False, 0, False
+        for line in text.split("\n"):
+            if line.lstrip().startswith("--"):
                 continue
+            indent = len(line) - len(line.lstrip())
             if BLOCK.match(line):
-                inside = True
-            elif line.strip() and not line.startswith(" "):
+                inside, depth = True, indent
+            elif line.strip() and indent <= depth:
                 inside = False
-            m = FIELD.match(line) if inside and line.startswith(" ") else None
+            if line.strip() and not indent:
+                section = line.startswith("module _")
+            m = FIELD.match(line) if inside and indent > depth else None
             if m:
                 fields[m.group(1)] += 1
                 continue
+            # A lemma of a section: its signature, and an equation for it at the same depth.
+            m = INNER.match(line) if section and not inside else None
+            if m and re.search(rf"(?m)^{m.group(1)}{re.escape(m.group(2))}(?: [^:\n]*)?=", text):
+                heads[m.group(2)] += 1
             m = HEAD.match(line)
             if m and not line.startswith(("use ", "unfolding ", "pub mod ", "mod ")):
                 heads[next(g for g in m.groups() if g)] += 1

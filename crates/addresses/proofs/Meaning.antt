@@ -174,38 +174,38 @@ taken false e = refl
 
 -- every address of the list is well-formed
 module _ (list : List ℕ) where
-  all-formed : list_refusal list ≡ 0 → (i : ℕ) → i < count list → malformed_at list i ≡ false
+  all_formed : list_refusal list ≡ 0 → (i : ℕ) → i < count list → malformed_at list i ≡ false
   unfolding list_refusal
-  all-formed e i h =
+  all_formed e i h =
       let none : find_malformed list ≡ Nothing = found_nothing (find_malformed list) (taken (is_found (find_malformed list)) e) in
       found_none (malformed_at list) 0 (count list) none i (omega arith) (omega arith)
 
-  formed-all : ((i : ℕ) → i < count list → malformed_at list i ≡ false) → list_refusal list ≡ 0
+  formed_all : ((i : ℕ) → i < count list → malformed_at list i ≡ false) → list_refusal list ≡ 0
   unfolding list_refusal pick is_found
-  formed-all h =
+  formed_all h =
       ap (λ (f : Found). pick (is_found f) 19 0) (none_found (malformed_at list) 0 (count list) (λ m a b. h m (omega arith)))
 
   pub list_refusal_exactly : (list_refusal list ≡ 0) ↔ ((i : ℕ) → i < count list → malformed_at list i ≡ false)
-  list_refusal_exactly = (all-formed, formed-all)
+  list_refusal_exactly = (all_formed, formed_all)
 
 -- the words of a well-formed address are those of the address that is read from them, and it is well-formed
 module _ (list : List ℕ) (i : ℕ) (formed : malformed_at list i ≡ false) where
-  words-formed : well_formed (get_or list (3 * i) 0 / 65536) (get_or list (3 * i + 1) 0) (get_or list (3 * i + 2) 0) ≡ true
+  words_formed : well_formed (get_or list (3 * i) 0 / 65536) (get_or list (3 * i + 1) 0) (get_or list (3 * i + 2) 0) ≡ true
   unfolding malformed_at
-  words-formed = not-false _ formed
+  words_formed = not-false _ formed
 
-  kind-small : get_or list (3 * i) 0 / 65536 < 256
-  kind-small = ⊎_elim (λ e. omega arith) (λ e. omega arith) (well_formed_kinds _ _ _ words-formed)
+  kind_small : get_or list (3 * i) 0 / 65536 < 256
+  kind_small = ⊎_elim (λ e. omega arith) (λ e. omega arith) (well_formed_kinds _ _ _ words_formed)
 
   pub listed_word : first_word (address_at list i) ≡ get_or list (3 * i) 0
-  listed_word = omega (arith, kind-small)
+  listed_word = omega (arith, kind_small)
 
   pub listed_well_formed : refusal (address_at list i) ≡ 0
   unfolding refusal pick
   listed_well_formed =
-      let same_kind : get_or list (3 * i) 0 / 65536 % 256 ≡ get_or list (3 * i) 0 / 65536 = omega (arith, kind-small) in
+      let same_kind : get_or list (3 * i) 0 / 65536 % 256 ≡ get_or list (3 * i) 0 / 65536 = omega (arith, kind_small) in
       ap (λ (k : ℕ). pick (well_formed k (get_or list (3 * i + 1) 0) (get_or list (3 * i + 2) 0)) 0 19) same_kind
-      ∙ ap (λ (b : Bool). pick b 0 19) words-formed
+      ∙ ap (λ (b : Bool). pick b 0 19) words_formed
 
 -- address i of the list and address j of ours have the same words
 pub record Shared (list ours : List ℕ) : Type 0 where
@@ -222,9 +222,9 @@ module _ (list ours : List ℕ) where
   abbrev owned : ℕ → ℕ → Bool
   owned i = holds_at ours (get_or list (3 * i) 0) (get_or list (3 * i + 1) 0) (get_or list (3 * i + 2) 0)
 
-  ours-shared : any_ours list ours ≡ true → Shared list ours
+  ours_shared : any_ours list ours ≡ true → Shared list ours
   unfolding any_ours is_ours
-  ours-shared e =
+  ours_shared e =
       let f = found_at (find_ours list ours) e in
       let i : ℕ = f.0 in
       let x = found_lowest (is_ours list ours) 0 (count list) i f.1 in
@@ -247,9 +247,9 @@ module _ (list ours : List ℕ) where
       (has_words_exactly ours (3 * s.j) (get_or list (3 * s.i) 0) (get_or list (3 * s.i + 1) 0) (get_or list (3 * s.i + 2) 0)).1
       (sym s.first, sym s.low, sym s.high)
 
-  shared-ours : Shared list ours → any_ours list ours ≡ true
+  shared_ours : Shared list ours → any_ours list ours ≡ true
   unfolding any_ours is_ours
-  shared-ours s =
+  shared_ours s =
       by_test (any_ours list ours)
       (λ t. t)
       (λ t.
@@ -259,4 +259,4 @@ module _ (list ours : List ℕ) where
       absurd (false≢true (sym lacks ∙ shared_has s)))
 
   pub any_ours_exactly : (any_ours list ours ≡ true) ↔ Shared list ours
-  any_ours_exactly = (ours-shared, shared-ours)
+  any_ours_exactly = (ours_shared, shared_ours)

@@ -34,37 +34,37 @@ module _ (a : Address) where
   address_refused t = ap (λ (b : Bool). pick b 0 19) (sym t)
 
 module _ {f : Found} where
-  found-true : {i : ℕ} → f ≡ At i → is_found f ≡ true
+  found_true : {i : ℕ} → f ≡ At i → is_found f ≡ true
   unfolding is_found
-  found-true e = ap is_found e
+  found_true e = ap is_found e
 
-  found-false : f ≡ Nothing → is_found f ≡ false
+  found_false : f ≡ Nothing → is_found f ≡ false
   unfolding is_found
-  found-false e = ap is_found e
+  found_false e = ap is_found e
 
 module _ (list : List ℕ) where
   pub list_refused : {i : ℕ} → find_malformed list ≡ At i → 19 ≡ list_refusal list
   unfolding list_refusal pick
-  list_refused e = ap (λ (b : Bool). pick b 19 0) (sym (found-true e))
+  list_refused e = ap (λ (b : Bool). pick b 19 0) (sym (found_true e))
 
   pub list_taken : find_malformed list ≡ Nothing → 0 ≡ list_refusal list
   unfolding list_refusal pick
-  list_taken e = ap (λ (b : Bool). pick b 19 0) (sym (found-false e))
+  list_taken e = ap (λ (b : Bool). pick b 19 0) (sym (found_false e))
 
 module _ (list ours : List ℕ) where
   -- address i of the list, as the search for its words among ours answers
   pub address_ours : (i : ℕ) {j : ℕ} → find_words ours (get_or list (3 * i) 0) (get_or list (3 * i + 1) 0) (get_or list (3 * i + 2) 0) ≡ At j → true ≡ is_ours list ours i
   unfolding is_ours
-  address_ours i e = sym (found-true e)
+  address_ours i e = sym (found_true e)
 
   pub address_other : (i : ℕ) → find_words ours (get_or list (3 * i) 0) (get_or list (3 * i + 1) 0) (get_or list (3 * i + 2) 0) ≡ Nothing → false ≡ is_ours list ours i
   unfolding is_ours
-  address_other i e = sym (found-false e)
+  address_other i e = sym (found_false e)
 
   pub some_ours : {i : ℕ} → find_ours list ours ≡ At i → true ≡ any_ours list ours
   unfolding any_ours
-  some_ours e = sym (found-true e)
+  some_ours e = sym (found_true e)
 
   pub none_ours : find_ours list ours ≡ Nothing → false ≡ any_ours list ours
   unfolding any_ours
-  none_ours e = sym (found-false e)
+  none_ours e = sym (found_false e)

@@ -104,13 +104,13 @@ module _ (s : NetcodeServer) (slots pending : List ℕ) (addr : Address) (out : 
     abbrev call : ℕ
     call = call_refusal s.ask (both_refusal s.set (length slots) (length pending))
 
-    pub call-refuses : (r ≡ 0 → ⊥) → r ≡ arrival_refusal (state s slots pending) addr out
+    pub call_refuses : (r ≡ 0 → ⊥) → r ≡ arrival_refusal (state s slots pending) addr out
     unfolding arrival_refusal
-    call-refuses n = first_refuses call (lent_refusal addr out) r (tested ∙ ap (call_refusal s.ask) tabled) n
+    call_refuses n = first_refuses call (lent_refusal addr out) r (tested ∙ ap (call_refusal s.ask) tabled) n
 
-    pub lent-decides : r ≡ 0 → (q : ℕ) → q ≡ lent_refusal addr out → q ≡ arrival_refusal (state s slots pending) addr out
+    pub lent_decides : r ≡ 0 → (q : ℕ) → q ≡ lent_refusal addr out → q ≡ arrival_refusal (state s slots pending) addr out
     unfolding arrival_refusal
-    lent-decides z q e = second_decides call (lent_refusal addr out) r (tested ∙ ap (call_refusal s.ask) tabled) z q e
+    lent_decides z q e = second_decides call (lent_refusal addr out) r (tested ∙ ap (call_refusal s.ask) tabled) z q e
 
   -- what they let through has tables of set-up's lengths
   pub arrival_shaped : arrival_refusal (state s slots pending) addr out ≡ 0 → Shaped slots s.set.slots × Shaped pending s.set.pending
@@ -133,42 +133,42 @@ module _ (table : List ℕ) (n i : ℕ) (kind : PacketType) (sequence : ℕ) (w 
 
 module _ (s : NetcodeServer) (table : List ℕ) (n : ℕ) (connected : Bool) (i : ℕ) (kind : PacketType) where
   module _ (sequence start out : ℕ) (d : List ℕ) where
-    pub open-asked : (key : List ℕ) → key ≡ bytes_at table (receive_key_at n i) 4 → (a : packet.Ask)
+    pub open_asked_lem : (key : List ℕ) → key ≡ bytes_at table (receive_key_at n i) 4 → (a : packet.Ask)
         → a ≡ packet_ask Open key sequence (get_or d 0 0) s.set.protocol_id start (length d) → (b : Ask) → b ≡ asked a
         → (r : Turn) → r ≡ asking s (Packet connected i kind sequence start) (length d) out b
         → r ≡ open_asked s table n connected i kind sequence start out d
     unfolding open_asked
-    open-asked key ek a ea b eb r e = e ∙ ap (asking s (Packet connected i kind sequence start) (length d) out) (eb ∙ ap asked (ea ∙ ap with-key ek))
+    open_asked_lem key ek a ea b eb r e = e ∙ ap (asking s (Packet connected i kind sequence start) (length d) out) (eb ∙ ap asked (ea ∙ ap with_key ek))
       where
-        with-key : List ℕ → packet.Ask
-        with-key k = packet_ask Open k sequence (get_or d 0 0) s.set.protocol_id start (length d)
+        with_key : List ℕ → packet.Ask
+        with_key k = packet_ask Open k sequence (get_or d 0 0) s.set.protocol_id start (length d)
 
     -- w is what the window's test gave
     module _ (w : ℕ) (tested : w ≡ window_refusal table n i kind sequence) where
-      pub window-refuses : (w ≡ 0 → ⊥) → (r : Turn) → r ≡ refused s w → r ≡ sealed_at s table n connected i kind sequence start out d
+      pub window_refuses : (w ≡ 0 → ⊥) → (r : Turn) → r ≡ refused s w → r ≡ sealed_at s table n connected i kind sequence start out d
       unfolding sealed_at pick
-      window-refuses ne r e = e ∙ ap (refused s) tested ∙ simp (ne_eqb (window_refusal table n i kind sequence) 0 (λ z. ne (tested ∙ z)))
+      window_refuses ne r e = e ∙ ap (refused s) tested ∙ simp (ne_eqb (window_refusal table n i kind sequence) 0 (λ z. ne (tested ∙ z)))
 
       -- p is whether a tag does not fit
       module _ (free : w ≡ 0) (p : Bool) (fits : p ≡ ltb (length d) (start + 16)) where
-        window-passes : eqb (window_refusal table n i kind sequence) 0 ≡ true
-        window-passes = eq-eqb (window_refusal table n i kind sequence) 0 (sym tested ∙ free)
+        window_passes : eqb (window_refusal table n i kind sequence) 0 ≡ true
+        window_passes = eq-eqb (window_refusal table n i kind sequence) 0 (sym tested ∙ free)
 
-        pub tag-cut : p ≡ true → (r : Turn) → r ≡ refused s 7 → r ≡ sealed_at s table n connected i kind sequence start out d
+        pub tag_cut : p ≡ true → (r : Turn) → r ≡ refused s 7 → r ≡ sealed_at s table n connected i kind sequence start out d
         unfolding sealed_at pick
-        tag-cut h r e = e ∙ simp (window-passes, sym fits ∙ h)
+        tag_cut h r e = e ∙ simp (window_passes, sym fits ∙ h)
 
-        pub sealed-asks : p ≡ false → (r : Turn) → r ≡ open_asked s table n connected i kind sequence start out d
+        pub sealed_asks : p ≡ false → (r : Turn) → r ≡ open_asked s table n connected i kind sequence start out d
             → r ≡ sealed_at s table n connected i kind sequence start out d
         unfolding sealed_at pick
-        sealed-asks h r e = e ∙ simp (window-passes, sym fits ∙ h)
+        sealed_asks h r e = e ∙ simp (window_passes, sym fits ∙ h)
 
   -- a is what the head's reading gave
   module _ (out : ℕ) (d : List ℕ) (a : Start) (headed : a ≡ start_at d) where
-    pub head-refused : (number : ℕ) → a ≡ starting.Refused number → (r : Turn) → r ≡ refused s number
+    pub head_refused : (number : ℕ) → a ≡ starting.Refused number → (r : Turn) → r ≡ refused s number
         → r ≡ by_start s table n connected i kind out d (start_at d)
     unfolding by_start
-    head-refused number h r e = e ∙ ap (by_start s table n connected i kind out d) (sym h ∙ headed)
+    head_refused number h r e = e ∙ ap (by_start s table n connected i kind out d) (sym h ∙ headed)
 
     pub head_read : (sequence start : ℕ) → a ≡ starting.At sequence start → (r : Turn) → r ≡ sealed_at s table n connected i kind sequence start out d
         → r ≡ by_start s table n connected i kind out d (start_at d)
@@ -186,9 +186,9 @@ module _ (s : NetcodeServer) (d : List ℕ) (v : Bool) (compared : v ≡ alike (
     versioned : alike (version_in d) (part version 0 13) ≡ true
     versioned = sym compared ∙ not-false v same
 
-    pub other-protocol : (p ≡ s.set.protocol_id → ⊥) → 11 ≡ request_refusal s d
+    pub other_protocol : (p ≡ s.set.protocol_id → ⊥) → 11 ≡ request_refusal s d
     unfolding request_refusal pick
-    other-protocol n = simp (versioned, ne_eqb (protocol_in d) s.set.protocol_id (λ e. n (protocol ∙ e)))
+    other_protocol n = simp (versioned, ne_eqb (protocol_in d) s.set.protocol_id (λ e. n (protocol ∙ e)))
 
     module _ (ours : p ≡ s.set.protocol_id) (x : ℕ) (expiry : x ≡ expiry_in d) where
       pub expired : x ≤ s.current_time.secs → 12 ≡ request_refusal s d
@@ -196,9 +196,9 @@ module _ (s : NetcodeServer) (d : List ℕ) (v : Bool) (compared : v ≡ alike (
       expired h =
           simp (versioned, eq-eqb (protocol_in d) s.set.protocol_id (sym protocol ∙ ours), le-leb (expiry_in d) s.current_time.secs (omega arith))
 
-      pub in-time : s.current_time.secs < x → 0 ≡ request_refusal s d
+      pub in_time : s.current_time.secs < x → 0 ≡ request_refusal s d
       unfolding request_refusal pick
-      in-time h =
+      in_time h =
           simp (versioned, eq-eqb (protocol_in d) s.set.protocol_id (sym protocol ∙ ours), lt-leb (expiry_in d) s.current_time.secs (omega arith))
 
 module _ (s : NetcodeServer) (addr : Address) (out : ℕ) (d : List ℕ) where
@@ -210,13 +210,13 @@ module _ (s : NetcodeServer) (addr : Address) (out : ℕ) (d : List ℕ) where
 
   -- q is what its tests gave
   module _ (q : ℕ) (tested : q ≡ request_refusal s d) where
-    pub request-refused : (q ≡ 0 → ⊥) → (r : Turn) → r ≡ refused s q → r ≡ request_read s addr out d
+    pub request_refused : (q ≡ 0 → ⊥) → (r : Turn) → r ≡ refused s q → r ≡ request_read s addr out d
     unfolding request_read pick
-    request-refused n r e = e ∙ ap (refused s) tested ∙ simp (ne_eqb (request_refusal s d) 0 (λ z. n (tested ∙ z)))
+    request_refused n r e = e ∙ ap (refused s) tested ∙ simp (ne_eqb (request_refusal s d) 0 (λ z. n (tested ∙ z)))
 
-    pub request-asks : q ≡ 0 → (r : Turn) → r ≡ token_asked s addr out d → r ≡ request_read s addr out d
+    pub request_asks : q ≡ 0 → (r : Turn) → r ≡ token_asked s addr out d → r ≡ request_read s addr out d
     unfolding request_read pick
-    request-asks free r e = e ∙ simp (eq-eqb (request_refusal s d) 0 (sym tested ∙ free))
+    request_asks free r e = e ∙ simp (eq-eqb (request_refusal s d) 0 (sym tested ∙ free))
 
 -- ---- by who sends: f is what the search for the sender gave
 
@@ -226,79 +226,79 @@ module _ (s : NetcodeServer) (slots pending : List ℕ) (addr : Address) (out : 
 
   module _ (f : Sender) (found : f ≡ sender_in t addr) where
     -- the place that was found is one of its table
-    pub slot-there : Shaped slots s.set.slots → (i : ℕ) → f ≡ Connected i → i < s.set.slots
-    slot-there shape i h = sender_slot slots s.set.slots pending s.set.pending addr shape i (sym found ∙ h)
+    pub slot_there : Shaped slots s.set.slots → (i : ℕ) → f ≡ Connected i → i < s.set.slots
+    slot_there shape i h = sender_slot slots s.set.slots pending s.set.pending addr shape i (sym found ∙ h)
 
-    pub place-there : Shaped pending s.set.pending → (j : ℕ) → f ≡ Pending j → j < s.set.pending
-    place-there shape j h = sender_pending slots s.set.slots pending s.set.pending addr shape j (sym found ∙ h)
+    pub place_there : Shaped pending s.set.pending → (j : ℕ) → f ≡ Pending j → j < s.set.pending
+    place_there shape j h = sender_pending slots s.set.slots pending s.set.pending addr shape j (sym found ∙ h)
 
-    pub request-connected : (i : ℕ) → f ≡ Connected i → (u : List ℕ) → u ≡ put_time slots (received_at s.set.slots i) s.current_time
+    pub request_connected : (i : ℕ) → f ≡ Connected i → (u : List ℕ) → u ≡ put_time slots (received_at s.set.slots i) s.current_time
         → (r : Turn) → r ≡ answered s answer.Nothing → came r u pending ≡ request_from t addr out d (sender_in t addr)
     unfolding request_from
-    request-connected i h u eu r e = ap₂ (λ (x : Turn) (v : List ℕ). came x v pending) e eu ∙ ap (request_from t addr out d) (sym h ∙ found)
+    request_connected i h u eu r e = ap₂ (λ (x : Turn) (v : List ℕ). came x v pending) e eu ∙ ap (request_from t addr out d) (sym h ∙ found)
 
-    pub request-pending : (j : ℕ) → f ≡ Pending j → (u : List ℕ) → u ≡ put_time pending (received_at s.set.pending j) s.current_time
+    pub request_pending : (j : ℕ) → f ≡ Pending j → (u : List ℕ) → u ≡ put_time pending (received_at s.set.pending j) s.current_time
         → (r : Turn) → r ≡ request_read s addr out d → came r slots u ≡ request_from t addr out d (sender_in t addr)
     unfolding request_from
-    request-pending j h u eu r e = ap₂ (λ (x : Turn) (v : List ℕ). came x slots v) e eu ∙ ap (request_from t addr out d) (sym h ∙ found)
+    request_pending j h u eu r e = ap₂ (λ (x : Turn) (v : List ℕ). came x slots v) e eu ∙ ap (request_from t addr out d) (sym h ∙ found)
 
-    pub request-unknown : f ≡ Unknown → (r : Turn) → r ≡ request_read s addr out d → came r slots pending ≡ request_from t addr out d (sender_in t addr)
+    pub request_unknown : f ≡ Unknown → (r : Turn) → r ≡ request_read s addr out d → came r slots pending ≡ request_from t addr out d (sender_in t addr)
     unfolding request_from
-    request-unknown h r e = ap (λ (x : Turn). came x slots pending) e ∙ ap (request_from t addr out d) (sym h ∙ found)
+    request_unknown h r e = ap (λ (x : Turn). came x slots pending) e ∙ ap (request_from t addr out d) (sym h ∙ found)
 
     module _ (kind : PacketType) where
-      pub sealed-connected : (i : ℕ) → f ≡ Connected i → (r : Turn) → r ≡ by_start s slots s.set.slots true i kind out d (start_at d)
+      pub sealed_connected : (i : ℕ) → f ≡ Connected i → (r : Turn) → r ≡ by_start s slots s.set.slots true i kind out d (start_at d)
           → r ≡ sealed_from t out kind d (sender_in t addr)
       unfolding sealed_from
-      sealed-connected i h r e = e ∙ ap (sealed_from t out kind d) (sym h ∙ found)
+      sealed_connected i h r e = e ∙ ap (sealed_from t out kind d) (sym h ∙ found)
 
-      pub sealed-pending : (j : ℕ) → f ≡ Pending j → (r : Turn) → r ≡ by_start s pending s.set.pending false j kind out d (start_at d)
+      pub sealed_pending : (j : ℕ) → f ≡ Pending j → (r : Turn) → r ≡ by_start s pending s.set.pending false j kind out d (start_at d)
           → r ≡ sealed_from t out kind d (sender_in t addr)
       unfolding sealed_from
-      sealed-pending j h r e = e ∙ ap (sealed_from t out kind d) (sym h ∙ found)
+      sealed_pending j h r e = e ∙ ap (sealed_from t out kind d) (sym h ∙ found)
 
-      pub sealed-unknown : f ≡ Unknown → (r : Turn) → r ≡ refused s 3 → r ≡ sealed_from t out kind d (sender_in t addr)
+      pub sealed_unknown : f ≡ Unknown → (r : Turn) → r ≡ refused s 3 → r ≡ sealed_from t out kind d (sender_in t addr)
       unfolding sealed_from
-      sealed-unknown h r e = e ∙ ap (sealed_from t out kind d) (sym h ∙ found)
+      sealed_unknown h r e = e ∙ ap (sealed_from t out kind d) (sym h ∙ found)
 
   -- ---- by its type: b is whether it is a request
 
   module _ (kind : PacketType) (b : Bool) (told : b ≡ is_request kind) where
-    pub request-short : b ≡ true → length d < 1078 → (r : Turn) → r ≡ refused s 9 → came r slots pending ≡ kind_arrives t addr out d kind
+    pub request_short : b ≡ true → length d < 1078 → (r : Turn) → r ≡ refused s 9 → came r slots pending ≡ kind_arrives t addr out d kind
     unfolding kind_arrives pick
-    request-short h k r e = ap (λ (x : Turn). came x slots pending) e ∙ simp (sym told ∙ h, lt-ltb (length d) 1078 k)
+    request_short h k r e = ap (λ (x : Turn). came x slots pending) e ∙ simp (sym told ∙ h, lt-ltb (length d) 1078 k)
 
-    pub request-long : b ≡ true → 1078 ≤ length d → (o : Outcome) → o ≡ request_from t addr out d (sender_in t addr) → o ≡ kind_arrives t addr out d kind
+    pub request_long : b ≡ true → 1078 ≤ length d → (o : Outcome) → o ≡ request_from t addr out d (sender_in t addr) → o ≡ kind_arrives t addr out d kind
     unfolding kind_arrives pick
-    request-long h k o e = e ∙ simp (sym told ∙ h, le-ltb (length d) 1078 k)
+    request_long h k o e = e ∙ simp (sym told ∙ h, le-ltb (length d) 1078 k)
 
-    pub sealed-kind : b ≡ false → (r : Turn) → r ≡ sealed_from t out kind d (sender_in t addr) → came r slots pending ≡ kind_arrives t addr out d kind
+    pub sealed_kind : b ≡ false → (r : Turn) → r ≡ sealed_from t out kind d (sender_in t addr) → came r slots pending ≡ kind_arrives t addr out d kind
     unfolding kind_arrives pick
-    sealed-kind h r e = ap (λ (x : Turn). came x slots pending) e ∙ simp (sym told ∙ h)
+    sealed_kind h r e = ap (λ (x : Turn). came x slots pending) e ∙ simp (sym told ∙ h)
 
   -- ---- the whole: q is what the tests before it gave, a what its type's reading gave
 
   module _ (q : ℕ) (tested : q ≡ arrival_refusal t addr out) where
-    pub arrival-stops : (q ≡ 0 → ⊥) → (r : Turn) → r ≡ refused s q → came r slots pending ≡ arrives t addr out d
+    pub arrival_stops : (q ≡ 0 → ⊥) → (r : Turn) → r ≡ refused s q → came r slots pending ≡ arrives t addr out d
     unfolding arrives pick
-    arrival-stops n r e =
+    arrival_stops n r e =
         ap (λ (x : Turn). came x slots pending) e ∙ ap (refuses t) tested ∙ simp (ne_eqb (arrival_refusal t addr out) 0 (λ z. n (tested ∙ z)))
 
     module _ (free : q ≡ 0) (a : Kind) (typed : a ≡ type_at d) where
-      type-decides : by_kind t addr out d a ≡ arrives t addr out d
+      type_decides : by_kind t addr out d a ≡ arrives t addr out d
       unfolding arrives pick
-      type-decides = ap (by_kind t addr out d) typed ∙ simp (eq-eqb (arrival_refusal t addr out) 0 (sym tested ∙ free))
+      type_decides = ap (by_kind t addr out d) typed ∙ simp (eq-eqb (arrival_refusal t addr out) 0 (sym tested ∙ free))
 
-      pub type-refused : (number : ℕ) → a ≡ kindly.Refused number → (r : Turn) → r ≡ refused s number → came r slots pending ≡ arrives t addr out d
+      pub type_refused : (number : ℕ) → a ≡ kindly.Refused number → (r : Turn) → r ≡ refused s number → came r slots pending ≡ arrives t addr out d
       unfolding by_kind
-      type-refused number h r e = ap (λ (x : Turn). came x slots pending) e ∙ ap (by_kind t addr out d) (sym h) ∙ type-decides
+      type_refused number h r e = ap (λ (x : Turn). came x slots pending) e ∙ ap (by_kind t addr out d) (sym h) ∙ type_decides
 
       -- a datagram of a known type has what its parts ask for
-      pub kind-ready : (kind : PacketType) → a ≡ kindly.Of kind → Shaped slots s.set.slots × Shaped pending s.set.pending × (18 ≤ length d)
-      kind-ready kind h =
+      pub kind_ready : (kind : PacketType) → a ≡ kindly.Of kind → Shaped slots s.set.slots × Shaped pending s.set.pending × (18 ≤ length d)
+      kind_ready kind h =
           let b = arrival_shaped s slots pending addr out (sym tested ∙ free) in
           (b.0, b.1, typed_long d kind (sym typed ∙ h))
 
-      pub type-known : (kind : PacketType) → a ≡ kindly.Of kind → (o : Outcome) → o ≡ kind_arrives t addr out d kind → o ≡ arrives t addr out d
+      pub type_known : (kind : PacketType) → a ≡ kindly.Of kind → (o : Outcome) → o ≡ kind_arrives t addr out d kind → o ≡ arrives t addr out d
       unfolding by_kind
-      type-known kind h o e = e ∙ ap (by_kind t addr out d) (sym h) ∙ type-decides
+      type_known kind h o e = e ∙ ap (by_kind t addr out d) (sym h) ∙ type_decides

@@ -28,9 +28,9 @@ use Rattle.bodies.specs.Bodies.{kind_of, wants, takes, least, body_length, Range
 -- ---- lengths
 
 module _ (protocol expiry : ℕ) (bytes : List ℕ) (w : 1061 ≤ length bytes) where
-  length-request : length (request_body protocol expiry bytes) ≡ 1077
+  length_request : length (request_body protocol expiry bytes) ≡ 1077
   unfolding request_body
-  length-request =
+  length_request =
       let a : length (part bytes 0 13) ≡ 13 = length_part bytes 0 13 (omega arith) in
       let d : length (part bytes 13 1048) ≡ 1048 = length_part bytes 13 1048 (omega arith) in
       simp length-append (omega (arith, length_to_le 8 protocol, length_to_le 8 expiry))
@@ -44,7 +44,7 @@ unfolding keep_alive_body
 length_keep_alive index maximum = simp length-append (omega (arith, length_to_le 4 index, length_to_le 4 maximum))
 
 pub length_body : (packet : Packet) (bytes : List ℕ) → wants (kind_of packet) ≤ length bytes → length (body packet bytes) ≡ body_length (kind_of packet) (length bytes)
-length_body (ConnectionRequest protocol expiry) bytes w = length-request protocol expiry bytes w
+length_body (ConnectionRequest protocol expiry) bytes w = length_request protocol expiry bytes w
 length_body ConnectionDenied bytes w = refl
 length_body (Challenge sequence) bytes w = length_token sequence bytes w
 length_body (Response sequence) bytes w = length_token sequence bytes w
@@ -75,22 +75,22 @@ second_of_lem : (xs ys : List ℕ) (n b k : ℕ) → length xs ≡ n → part (x
 second_of_lem xs ys n b k h = ap (λ (i : ℕ). part (xs ++ ys) (i + b) k) (sym h) ∙ part_right xs ys b k
 
 module _ (protocol expiry : ℕ) (bytes : List ℕ) (w : 1061 ≤ length bytes) where
-  request-protocol : part (request_body protocol expiry bytes) 13 8 ≡ to_le 8 protocol
+  request_protocol : part (request_body protocol expiry bytes) 13 8 ≡ to_le 8 protocol
   unfolding request_body
-  request-protocol =
+  request_protocol =
       second_of_lem (part bytes 0 13) (to_le 8 protocol ++ (to_le 8 expiry ++ part bytes 13 1048)) 13 0 8 (length_part bytes 0 13 (omega arith))
       ∙ first_of (to_le 8 protocol) (to_le 8 expiry ++ part bytes 13 1048) 8 (length_to_le 8 protocol)
 
-  request-expiry : part (request_body protocol expiry bytes) 21 8 ≡ to_le 8 expiry
+  request_expiry : part (request_body protocol expiry bytes) 21 8 ≡ to_le 8 expiry
   unfolding request_body
-  request-expiry =
+  request_expiry =
       second_of_lem (part bytes 0 13) (to_le 8 protocol ++ (to_le 8 expiry ++ part bytes 13 1048)) 13 8 8 (length_part bytes 0 13 (omega arith))
       ∙ second_of_lem (to_le 8 protocol) (to_le 8 expiry ++ part bytes 13 1048) 8 0 8 (length_to_le 8 protocol)
       ∙ first_of (to_le 8 expiry) (part bytes 13 1048) 8 (length_to_le 8 expiry)
 
-  request-beside : beside kind.ConnectionRequest (request_body protocol expiry bytes) ≡ part bytes 0 1061
+  request_beside : beside kind.ConnectionRequest (request_body protocol expiry bytes) ≡ part bytes 0 1061
   unfolding request_body
-  request-beside =
+  request_beside =
       let rest : List ℕ = part bytes 13 1048 in
       ap₂ (λ (a b : List ℕ). a ++ b)
       (first_of (part bytes 0 13) (to_le 8 protocol ++ (to_le 8 expiry ++ rest)) 13 (length_part bytes 0 13 (omega arith)))
@@ -101,22 +101,22 @@ module _ (protocol expiry : ℕ) (bytes : List ℕ) (w : 1061 ≤ length bytes) 
       ∙ sym (part_add bytes 0 13 1048)
 
 module _ (sequence : ℕ) (bytes : List ℕ) (w : 300 ≤ length bytes) where
-  token-number : part (token_body sequence bytes) 0 8 ≡ to_le 8 sequence
+  token_number : part (token_body sequence bytes) 0 8 ≡ to_le 8 sequence
   unfolding token_body
-  token-number = first_of (to_le 8 sequence) (part bytes 0 300) 8 (length_to_le 8 sequence)
+  token_number = first_of (to_le 8 sequence) (part bytes 0 300) 8 (length_to_le 8 sequence)
 
-  token-beside : part (token_body sequence bytes) 8 300 ≡ part bytes 0 300
+  token_beside : part (token_body sequence bytes) 8 300 ≡ part bytes 0 300
   unfolding token_body
-  token-beside = second_of_lem (to_le 8 sequence) (part bytes 0 300) 8 0 300 (length_to_le 8 sequence) ∙ part_whole (part bytes 0 300) 300 (length_part bytes 0 300 w)
+  token_beside = second_of_lem (to_le 8 sequence) (part bytes 0 300) 8 0 300 (length_to_le 8 sequence) ∙ part_whole (part bytes 0 300) 300 (length_part bytes 0 300 w)
 
 module _ (index maximum : ℕ) where
-  keep-alive-index : part (keep_alive_body index maximum) 0 4 ≡ to_le 4 index
+  keep_alive_index : part (keep_alive_body index maximum) 0 4 ≡ to_le 4 index
   unfolding keep_alive_body
-  keep-alive-index = first_of (to_le 4 index) (to_le 4 maximum) 4 (length_to_le 4 index)
+  keep_alive_index = first_of (to_le 4 index) (to_le 4 maximum) 4 (length_to_le 4 index)
 
-  keep-alive-maximum : part (keep_alive_body index maximum) 4 4 ≡ to_le 4 maximum
+  keep_alive_maximum : part (keep_alive_body index maximum) 4 4 ≡ to_le 4 maximum
   unfolding keep_alive_body
-  keep-alive-maximum = second_of_lem (to_le 4 index) (to_le 4 maximum) 4 0 4 (length_to_le 4 index) ∙ part_whole (to_le 4 maximum) 4 (length_to_le 4 maximum)
+  keep_alive_maximum = second_of_lem (to_le 4 index) (to_le 4 maximum) 4 0 4 (length_to_le 4 index) ∙ part_whole (to_le 4 maximum) 4 (length_to_le 4 maximum)
 
 -- a field that was written as a number reads as the number
 number_of_lem : (l : List ℕ) (k v : ℕ) → l ≡ to_le k v → v < 256 ^ k → of_le l ≡ v
@@ -128,22 +128,22 @@ number_of_lem l k v e h = ap of_le e ∙ of_le_to_le k v h
 pub numbers_read_back : (packet : Packet) (bytes : List ℕ) → Ranged packet → wants (kind_of packet) ≤ length bytes → numbers (kind_of packet) (body packet bytes) ≡ packet
 numbers_read_back (ConnectionRequest protocol expiry) bytes r w =
     ap₂ ConnectionRequest
-    (number_of_lem _ 8 protocol (request-protocol protocol expiry bytes w) r.0)
-    (number_of_lem _ 8 expiry (request-expiry protocol expiry bytes w) r.1)
+    (number_of_lem _ 8 protocol (request_protocol protocol expiry bytes w) r.0)
+    (number_of_lem _ 8 expiry (request_expiry protocol expiry bytes w) r.1)
 numbers_read_back ConnectionDenied bytes r w = refl
-numbers_read_back (Challenge sequence) bytes r w = ap Challenge (number_of_lem _ 8 sequence (token-number sequence bytes w) r)
-numbers_read_back (Response sequence) bytes r w = ap Response (number_of_lem _ 8 sequence (token-number sequence bytes w) r)
+numbers_read_back (Challenge sequence) bytes r w = ap Challenge (number_of_lem _ 8 sequence (token_number sequence bytes w) r)
+numbers_read_back (Response sequence) bytes r w = ap Response (number_of_lem _ 8 sequence (token_number sequence bytes w) r)
 numbers_read_back (KeepAlive index maximum) bytes r w =
-    ap₂ KeepAlive (number_of_lem _ 4 index (keep-alive-index index maximum) r.0) (number_of_lem _ 4 maximum (keep-alive-maximum index maximum) r.1)
+    ap₂ KeepAlive (number_of_lem _ 4 index (keep_alive_index index maximum) r.0) (number_of_lem _ 4 maximum (keep_alive_maximum index maximum) r.1)
 numbers_read_back Payload bytes r w = refl
 numbers_read_back Disconnect bytes r w = refl
 
 -- and those are the bytes that stand beside them in the body
 pub beside_reads_back : (packet : Packet) (bytes : List ℕ) → wants (kind_of packet) ≤ length bytes → beside (kind_of packet) (body packet bytes) ≡ part bytes 0 (takes (kind_of packet) (length bytes))
-beside_reads_back (ConnectionRequest protocol expiry) bytes w = request-beside protocol expiry bytes w
+beside_reads_back (ConnectionRequest protocol expiry) bytes w = request_beside protocol expiry bytes w
 beside_reads_back ConnectionDenied bytes w = refl
-beside_reads_back (Challenge sequence) bytes w = token-beside sequence bytes w
-beside_reads_back (Response sequence) bytes w = token-beside sequence bytes w
+beside_reads_back (Challenge sequence) bytes w = token_beside sequence bytes w
+beside_reads_back (Response sequence) bytes w = token_beside sequence bytes w
 beside_reads_back (KeepAlive index maximum) bytes w = refl
 beside_reads_back Payload bytes w = sym (part_whole bytes (length bytes) refl)
 beside_reads_back Disconnect bytes w = refl

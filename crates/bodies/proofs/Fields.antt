@@ -39,9 +39,9 @@ module _ (l : List ℕ) (at n : ℕ) where
 
 module _ (l : List ℕ) (at : ℕ) where
   -- three runs
-  three-written : (t u v : List ℕ) (p q : ℕ) (xs ys zs : List ℕ) → t ≡ splice l at xs → u ≡ splice t p ys → v ≡ splice u q zs
+  three_written : (t u v : List ℕ) (p q : ℕ) (xs ys zs : List ℕ) → t ≡ splice l at xs → u ≡ splice t p ys → v ≡ splice u q zs
       → at + length xs ≡ p → p + length ys ≡ q → q + length zs ≤ length l → v ≡ splice l at (xs ++ (ys ++ zs))
-  three-written t u v p q xs ys zs e f g i j h =
+  three_written t u v p q xs ys zs e f g i j h =
       let k : length (xs ++ ys) ≡ length xs + length ys = length-append xs ys in
       splice_then l u v at (xs ++ ys) q zs (splice_then l t u at xs p ys e f i (omega arith)) g (omega arith) h
       ∙ ap (splice l at) (append_assoc xs ys zs)
@@ -59,7 +59,7 @@ module _ (l : List ℕ) (at : ℕ) where
       let d : length rest ≡ 1048 = length_part bytes 13 1048 (omega arith) in
       let m : length (version ++ (to_le 8 protocol ++ to_le 8 expiry)) ≡ 29 = simp length-append (omega arith) in
       splice_then l v w at (version ++ (to_le 8 protocol ++ to_le 8 expiry)) (at + 29) rest
-      (three-written t u v (at + 13) (at + 21) version (to_le 8 protocol) (to_le 8 expiry) e f g (omega arith) (omega arith) (omega arith))
+      (three_written t u v (at + 13) (at + 21) version (to_le 8 protocol) (to_le 8 expiry) e f g (omega arith) (omega arith) (omega arith))
       i (omega arith) (omega arith)
       ∙ ap (splice l at) (append_assoc version (to_le 8 protocol ++ to_le 8 expiry) rest ∙ ap (λ (x : List ℕ). version ++ x) (append_assoc (to_le 8 protocol) (to_le 8 expiry) rest))
 
@@ -85,4 +85,4 @@ module _ (l : List ℕ) (at : ℕ) where
   challenge_written t u v id user h k e f g =
       let b : length (to_le 8 id) ≡ 8 = length_to_le 8 id in
       let z : length (zeros 20) ≡ 20 = refl in
-      three-written t u v (at + 8) (at + 264) (to_le 8 id) user (zeros 20) e (f ∙ ap (splice t (at + 8)) (part_whole user 256 k)) g (omega arith) (omega arith) (omega arith)
+      three_written t u v (at + 8) (at + 264) (to_le 8 id) user (zeros 20) e (f ∙ ap (splice t (at + 8)) (part_whole user 256 k)) g (omega arith) (omega arith) (omega arith)

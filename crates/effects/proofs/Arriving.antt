@@ -90,18 +90,18 @@ module _ (t : State) (good : Good t) (idle : t.server.ask.stage ≡ Idle)
       let m = t.server.set.pending in
       (address_found t.slots n slots addr i).0 (ways.slot-found (find_address t.slots n addr) (find_address t.pending m addr) i e)
 
-  pend-found : (addr : Address) (j : ℕ) → sender_in t addr ≡ Pending j → LowestOf (Keyed t.pending t.server.set.pending columns.addr (words_of addr)) t.server.set.pending j
-  pend-found addr j e =
+  pend_found : (addr : Address) (j : ℕ) → sender_in t addr ≡ Pending j → LowestOf (Keyed t.pending t.server.set.pending columns.addr (words_of addr)) t.server.set.pending j
+  pend_found addr j e =
       let n = t.server.set.slots in
       let m = t.server.set.pending in
       (address_found t.pending m pending addr j).0 (ways.place_found (find_address t.slots n addr) (find_address t.pending m addr) j e)
 
   module _ (out : ℕ) (d : List ℕ) where
-    asks-slot : (i : ℕ) (kind : PacketType) (sequence start : ℕ) → i < t.server.set.slots → used_at t.slots i ≡ true
+    asks_slot : (i : ℕ) (kind : PacketType) (sequence start : ℕ) → i < t.server.set.slots → used_at t.slots i ≡ true
         → window_refusal t.slots t.server.set.slots i kind sequence ≡ 0
         → Turns t (open_asked t.server t.slots t.server.set.slots true i kind sequence start out d)
     unfolding open_asked with_ask place_of pick
-    asks-slot i kind sequence start h used w =
+    asks_slot i kind sequence start h used w =
         let n = t.server.set.slots in
         let u = state (open_asked t.server t.slots n true i kind sequence start out d).server t.slots t.pending in
         record {
@@ -109,11 +109,11 @@ module _ (t : State) (good : Good t) (idle : t.server.ask.stage ≡ Idle)
               (fits (seen u) (Slot i) t.slots n i kind sequence (seen_slot u i ∙ view_inside t.slots n i h) used w);
         }
 
-    asks-pend : (j : ℕ) (kind : PacketType) (sequence start : ℕ) → j < t.server.set.pending → used_at t.pending j ≡ true
+    asks_pend : (j : ℕ) (kind : PacketType) (sequence start : ℕ) → j < t.server.set.pending → used_at t.pending j ≡ true
         → window_refusal t.pending t.server.set.pending j kind sequence ≡ 0
         → Turns t (open_asked t.server t.pending t.server.set.pending false j kind sequence start out d)
     unfolding open_asked with_ask place_of pick
-    asks-pend j kind sequence start h used w =
+    asks_pend j kind sequence start h used w =
         let m = t.server.set.pending in
         let u = state (open_asked t.server t.pending m false j kind sequence start out d).server t.slots t.pending in
         let v : Settled u = record { none = λ k. refl } in
@@ -122,37 +122,37 @@ module _ (t : State) (good : Good t) (idle : t.server.ask.stage ≡ Idle)
               (fits (seen u) (Pend j) t.pending m j kind sequence (seen_pend u v j ∙ view_inside t.pending m j h) used w);
         }
 
-    sealed-slot : (i : ℕ) (kind : PacketType) → i < t.server.set.slots → used_at t.slots i ≡ true → (x : Start)
+    sealed_slot : (i : ℕ) (kind : PacketType) → i < t.server.set.slots → used_at t.slots i ≡ true → (x : Start)
         → Turns t (by_start t.server t.slots t.server.set.slots true i kind out d x)
     unfolding by_start sealed_at
-    sealed-slot i kind h used (starting.Refused n) = stop n
-    sealed-slot i kind h used (starting.At sequence start) =
+    sealed_slot i kind h used (starting.Refused n) = stop n
+    sealed_slot i kind h used (starting.At sequence start) =
         pick_all (Turns t) _
-        (λ w. pick_all (Turns t) _ (λ _. stop 7) (λ _. asks-slot i kind sequence start h used (eqb-true _ 0 w)))
+        (λ w. pick_all (Turns t) _ (λ _. stop 7) (λ _. asks_slot i kind sequence start h used (eqb-true _ 0 w)))
         (λ _. stop _)
 
-    sealed-pend : (j : ℕ) (kind : PacketType) → j < t.server.set.pending → used_at t.pending j ≡ true → (x : Start)
+    sealed_pend : (j : ℕ) (kind : PacketType) → j < t.server.set.pending → used_at t.pending j ≡ true → (x : Start)
         → Turns t (by_start t.server t.pending t.server.set.pending false j kind out d x)
     unfolding by_start sealed_at
-    sealed-pend j kind h used (starting.Refused n) = stop n
-    sealed-pend j kind h used (starting.At sequence start) =
+    sealed_pend j kind h used (starting.Refused n) = stop n
+    sealed_pend j kind h used (starting.At sequence start) =
         pick_all (Turns t) _
-        (λ w. pick_all (Turns t) _ (λ _. stop 7) (λ _. asks-pend j kind sequence start h used (eqb-true _ 0 w)))
+        (λ w. pick_all (Turns t) _ (λ _. stop 7) (λ _. asks_pend j kind sequence start h used (eqb-true _ 0 w)))
         (λ _. stop _)
 
     module _ (addr : Address) where
-      sealed-does : (kind : PacketType) (x : Sender) → sender_in t addr ≡ x → Turns t (sealed_from t out kind d x)
+      sealed_does : (kind : PacketType) (x : Sender) → sender_in t addr ≡ x → Turns t (sealed_from t out kind d x)
       unfolding sealed_from
-      sealed-does kind (Connected i) e = let k = slot_found addr i e in sealed-slot i kind k.below k.here.0 (start_at d)
-      sealed-does kind (Pending j) e = let k = pend-found addr j e in sealed-pend j kind k.below k.here.0 (start_at d)
-      sealed-does kind Unknown e = stop 3
+      sealed_does kind (Connected i) e = let k = slot_found addr i e in sealed_slot i kind k.below k.here.0 (start_at d)
+      sealed_does kind (Pending j) e = let k = pend_found addr j e in sealed_pend j kind k.below k.here.0 (start_at d)
+      sealed_does kind Unknown e = stop 3
 
       -- ---- a request
 
       -- the pending table as it was, or with a received time set
-      request-reads : (pending' : List ℕ) → Unseen t.server.set.pending t.pending pending' → Meets t (came (request_read t.server addr out d) t.slots pending')
+      request_reads : (pending' : List ℕ) → Unseen t.server.set.pending t.pending pending' → Meets t (came (request_read t.server addr out d) t.slots pending')
       unfolding request_read token_asked with_ask
-      request-reads pending' k =
+      request_reads pending' k =
           let n = t.server.set.slots in
           let Slots-kept = unseen_refl n t.slots in
           record {
@@ -161,9 +161,9 @@ module _ (t : State) (good : Good t) (idle : t.server.ask.stage ≡ Idle)
                 (λ _. leaf (state t.server t.slots pending') refl (stage_settled (state t.server t.slots pending') idle) Slots-kept k (nothing_asked (state t.server t.slots pending') idle));
           }
 
-      request-does : (x : Sender) → sender_in t addr ≡ x → Meets t (request_from t addr out d x)
+      request_does : (x : Sender) → sender_in t addr ≡ x → Meets t (request_from t addr out d x)
       unfolding request_from
-      request-does (Connected i) e =
+      request_does (Connected i) e =
           let n = t.server.set.slots in
           let k = slot_found addr i e in
           let u = (request_from t addr out d (Connected i)).state in
@@ -171,19 +171,19 @@ module _ (t : State) (good : Good t) (idle : t.server.ask.stage ≡ Idle)
             is = leaf u refl (stage_settled u idle) (time_unseen t.slots n i slots k.below 9 t.server.current_time (omega arith) (omega arith))
                 (unseen_refl t.server.set.pending t.pending) (nothing_asked u idle);
           }
-      request-does (Pending j) e =
+      request_does (Pending j) e =
           let m = t.server.set.pending in
-          let k = pend-found addr j e in
-          request-reads _ (time_unseen t.pending m j pending k.below 9 t.server.current_time (omega arith) (omega arith))
-      request-does Unknown e = request-reads t.pending (unseen_refl t.server.set.pending t.pending)
+          let k = pend_found addr j e in
+          request_reads _ (time_unseen t.pending m j pending k.below 9 t.server.current_time (omega arith) (omega arith))
+      request_does Unknown e = request_reads t.pending (unseen_refl t.server.set.pending t.pending)
 
-      kind-does : (kind : Kind) → Meets t (by_kind t addr out d kind)
+      kind_does : (kind : Kind) → Meets t (by_kind t addr out d kind)
       unfolding by_kind kind_arrives
-      kind-does (kindly.Refused n) = calm n
-      kind-does (kindly.Of kind) =
+      kind_does (kindly.Refused n) = calm n
+      kind_does (kindly.Of kind) =
           pick_all (Meets t) _
-          (λ _. pick_all (Meets t) _ (λ _. calm 9) (λ _. request-does (sender_in t addr) refl))
-          (λ _. record { is = (sealed-does kind (sender_in t addr) refl).is })
+          (λ _. pick_all (Meets t) _ (λ _. calm 9) (λ _. request_does (sender_in t addr) refl))
+          (λ _. record { is = (sealed_does kind (sender_in t addr) refl).is })
 
 -- THE EFFECT OF A DATAGRAM: nothing is accepted and every place is seen as it was
 pub arrives_does : (t : State) → Good t → (addr : Address) (out : ℕ) (d : List ℕ) → Does t None (arrives t addr out d).state
@@ -194,6 +194,6 @@ arrives_does t good addr out d =
     let k = neither (call_refusal t.server.ask (both_refusal t.server.set (length t.slots) (length t.pending))) (lent_refusal addr out) (eqb-true (arrival_refusal t addr out) 0 e) in
     let f = call_free t.server.ask (both_refusal t.server.set (length t.slots) (length t.pending)) k.0 in
     let b = both_shaped t.server.set t.slots t.pending f.1 in
-    kind-does t good f.0 b.0 b.1 out d addr (type_at d))
+    kind_does t good f.0 b.0 b.1 out d addr (type_at d))
     (λ _. record { is = unchanged t good.ask })
     ).is

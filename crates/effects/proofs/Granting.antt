@@ -36,7 +36,7 @@ use Rattle.views.specs.Effects.{None, as_is, ended, kept, AskFits, Unconnected, 
 use Rattle.views.proofs.Stores.{view_inside, view_within, view_else, unseen_refl, emptied_gone}
 use Rattle.views.proofs.Spread.{by_place_lem}
 use Rattle.effects.specs.Calls.{Grants, replied}
-use Rattle.effects.proofs.Seen.{pick_all, both_false, Settled, seen_slot, inside_same, all_same, pend-changes, still, unchanged}
+use Rattle.effects.proofs.Seen.{pick_all, both_false, Settled, seen_slot, inside_same, all_same, pend_changes, still, unchanged}
 
 -- a search that found nothing
 not_found : (x : Found) → is_found x ≡ false → x ≡ Nothing
@@ -67,7 +67,7 @@ module _ (t : State) (settled : Settled t) (slots : Shaped t.slots t.server.set.
   steps s p k (without j h) =
       let m = t.server.set.pending in
       let u = state s t.slots (emptied t.pending j) in
-      let c = pend-changes t u k.set settled (record { none = k.none }) j (seen t (Pend j)) (ended (emptied_gone t.pending m j pending h))
+      let c = pend_changes t u k.set settled (record { none = k.none }) j (seen t (Pend j)) (ended (emptied_gone t.pending m j pending h))
       (λ q d. view_else m j q t.pending (emptied t.pending j) (emptied_elsewhere t.pending m j pending h) d) (unseen_refl t.server.set.slots t.slots) in
       record {
         places = inside_same t u k.set;

@@ -69,40 +69,40 @@ dropped_stays t m secs shape j =
     (λ e. as_is (view_outside (dropped t m secs) m j e ∙ sym (view_outside t m j e)))
 
 module _ (t : State) (good : Good t) where
-  clock-stays : t.server.ask.stage ≡ stage.Idle → Shaped t.pending t.server.set.pending → (u : State) (secs : ℕ) → u.server.set ≡ t.server.set → Settled u
+  clock_stays : t.server.ask.stage ≡ stage.Idle → Shaped t.pending t.server.set.pending → (u : State) (secs : ℕ) → u.server.set ≡ t.server.set → Settled u
       → u.slots ≡ t.slots → u.pending ≡ dropped t.pending t.server.set.pending secs → (q : Place) → Stays (seen t q) (seen u q)
-  clock-stays idle shape u secs same v e f (Slot i) = as_is (slots_same t u same (rw e (unseen_refl t.server.set.slots t.slots)) i)
-  clock-stays idle shape u secs same v e f (Pend j) =
+  clock_stays idle shape u secs same v e f (Slot i) = as_is (slots_same t u same (rw e (unseen_refl t.server.set.slots t.slots)) i)
+  clock_stays idle shape u secs same v e f (Pend j) =
       let m = t.server.set.pending in
       let x : seen u (Pend j) ≡ view_at (dropped t.pending m secs) m j = seen_pend u v j ∙ ap (λ (y : _). view_at u.pending y.pending j) same ∙ ap (λ (l : List ℕ). view_at l m j) f in
       rw (x, seen_pend t (stage_settled t idle) j) (dropped_stays t.pending m secs shape j)
 
-  clock-does : t.server.ask.stage ≡ stage.Idle → Shaped t.pending t.server.set.pending → (x : Added)
+  clock_does : t.server.ask.stage ≡ stage.Idle → Shaped t.pending t.server.set.pending → (x : Added)
       → Does t None (state (by_clock t.server t.pending x).result.server t.slots (by_clock t.server t.pending x).pending)
   unfolding by_clock with_clock
-  clock-does idle shape (Clock c) =
+  clock_does idle shape (Clock c) =
       let u = state (with_clock t.server c) t.slots (dropped t.pending t.server.set.pending c.secs) in
       record {
         places = inside_same t u refl;
-        effect = kept refl (clock-stays idle shape u c.secs refl (stage_settled u idle) refl refl);
+        effect = kept refl (clock_stays idle shape u c.secs refl (stage_settled u idle) refl refl);
         ask = nothing_asked u idle;
       }
-  clock-does idle shape OutOfRange = unchanged t good.ask
+  clock_does idle shape OutOfRange = unchanged t good.ask
 
-  updates-does : (duration : Time) → Does t None (next t (Updates duration))
+  updates_does : (duration : Time) → Does t None (next t (Updates duration))
   unfolding next updated
-  updates-does duration =
+  updates_does duration =
       pick_all (λ (o : Outcome). Does t None (state o.result.server t.slots o.pending)) (eqb (update_refusal t.server t.pending) 0)
       (λ e.
       let f = call_free t.server.ask (pending_refusal t.server.set (length t.pending)) (eqb-true (update_refusal t.server t.pending) 0 e) in
-      clock-does f.0 (pending_shaped t.server.set t.pending f.1) (added t.server.current_time duration))
+      clock_does f.0 (pending_shaped t.server.set t.pending f.1) (added t.server.current_time duration))
       (λ _. unchanged t good.ask)
 
   -- ---- the limit
 
-  limits-does : (limit : ℕ) → Does t None (next t (Limits limit))
+  limits_does : (limit : ℕ) → Does t None (next t (Limits limit))
   unfolding next limited with_limit
-  limits-does limit =
+  limits_does limit =
       pick_all (λ (o : Step). Does t None (state o.server t.slots t.pending)) (eqb (call_refusal t.server.ask 0) 0)
       (λ e.
       let idle = (call_free t.server.ask 0 (eqb-true (call_refusal t.server.ask 0) 0 e)).0 in
@@ -116,20 +116,20 @@ module _ (t : State) (good : Good t) where
 
   -- ---- every call
 
-  replies-do : (r : Reply) → Does t (told_by t r) (replied t r)
+  replies_do : (r : Reply) → Does t (told_by t r) (replied t r)
   unfolding told_by
-  replies-do (Opens granted held out d) = opens_does t good granted held out d
-  replies-do (Grants given token list entries public held out datagram) = grants_does t good given token list entries public held out datagram
-  replies-do (Seals granted held out) = seals_does t good granted held out
+  replies_do (Opens granted held out d) = opens_does t good granted held out d
+  replies_do (Grants given token list entries public held out datagram) = grants_does t good given token list entries public held out datagram
+  replies_do (Seals granted held out) = seals_does t good granted held out
 
   -- THE LAW OF EFFECT: what a call does to the records
   pub calls_do : (k : Call) → Does t (told t k) (next t k)
   unfolding told next
   calls_do (Arrives addr out d) = arrives_does t good addr out d
-  calls_do (Replies r) = replies-do r
+  calls_do (Replies r) = replies_do r
   calls_do (Serves v) = serves_does t good v
-  calls_do (Updates duration) = updates-does duration
-  calls_do (Limits limit) = limits-does limit
+  calls_do (Updates duration) = updates_does duration
+  calls_do (Limits limit) = limits_does limit
 
 -- ---- from set-up on
 
@@ -152,15 +152,15 @@ unseen_empty t n e j u =
     count_none t n e j h (ap (λ (v : View). v.used) (sym (view_inside t n j h)) ∙ u)
 
 module _ (c : ServerConfig) (t : State) (entries public : List ℕ) (fresh : Fresh c t.server t.slots t.pending entries public) where
-  nobody-seen : (p : Place) → (seen t p).used ≡ true → ⊥
-  nobody-seen (Slot i) u = unseen_empty t.slots t.server.set.slots fresh.connected i (ap (λ (v : View). v.used) (sym (seen_slot t i)) ∙ u)
-  nobody-seen (Pend j) u =
+  nobody_seen : (p : Place) → (seen t p).used ≡ true → ⊥
+  nobody_seen (Slot i) u = unseen_empty t.slots t.server.set.slots fresh.connected i (ap (λ (v : View). v.used) (sym (seen_slot t i)) ∙ u)
+  nobody_seen (Pend j) u =
       unseen_empty t.pending t.server.set.pending fresh.waiting j (ap (λ (v : View). v.used) (sym (seen_pend t (stage_settled t fresh.idle) j)) ∙ u)
 
   -- what set-up leaves is good
   pub fresh_good : Good t
   fresh_good = record {
-    apart = record { within = λ p u. absurd (nobody-seen p u); distinct = λ p q u v e. absurd (nobody-seen p u) };
+    apart = record { within = λ p u. absurd (nobody_seen p u); distinct = λ p q u v e. absurd (nobody_seen p u) };
     ask = nothing_asked t fresh.idle;
   }
 
@@ -181,16 +181,16 @@ pub record Separate (t : State) : Type 0 where
 
 -- a used place is seen with its address, a record on its way or not
 module _ (t : State) where
-  slot-shown : (i : ℕ) → i < t.server.set.slots → used_at t.slots i ≡ true
+  slot_shown : (i : ℕ) → i < t.server.set.slots → used_at t.slots i ≡ true
       → ((seen t (Slot i)).used ≡ true) × ((seen t (Slot i)).addr ≡ field_of t.slots t.server.set.slots i columns.addr)
-  slot-shown i h u =
+  slot_shown i h u =
       let v = seen_slot t i ∙ view_inside t.slots t.server.set.slots i h in
       (ap (λ (x : View). x.used) v ∙ u, ap (λ (x : View). x.addr) v)
 
-  pend-shown : (j : ℕ) → j < t.server.set.pending → used_at t.pending j ≡ true
+  pend_shown : (j : ℕ) → j < t.server.set.pending → used_at t.pending j ≡ true
       → ((seen t (Pend j)).used ≡ true) × ((seen t (Pend j)).addr ≡ field_of t.pending t.server.set.pending j columns.addr)
   unfolding seen
-  pend-shown j h u =
+  pend_shown j h u =
       let v = view_inside t.pending t.server.set.pending j h in
       pick_all (λ (x : View). (x.used ≡ true) × (x.addr ≡ field_of t.pending t.server.set.pending j columns.addr)) (views.leaves t.server.ask.stage j)
       (λ _. (refl, ap (λ (x : View). x.addr) v))
@@ -199,20 +199,20 @@ module _ (t : State) where
 pub good_separate : (t : State) → Good t → Separate t
 good_separate t good = record {
   slots = λ i j h k u v e.
-      let a = slot-shown t i h u in
-      let b = slot-shown t j k v in
+      let a = slot_shown t i h u in
+      let b = slot_shown t j k v in
       let x : Slot i ≡ Slot j = good.apart.distinct (Slot i) (Slot j) a.0 b.0 (a.1 ∙ e ∙ sym b.1) in
       let y : i ≡ j = cc in
       y;
   pending = λ i j h k u v e.
-      let a = pend-shown t i h u in
-      let b = pend-shown t j k v in
+      let a = pend_shown t i h u in
+      let b = pend_shown t j k v in
       let x : Pend i ≡ Pend j = good.apart.distinct (Pend i) (Pend j) a.0 b.0 (a.1 ∙ e ∙ sym b.1) in
       let y : i ≡ j = cc in
       y;
   across = λ i j h k u v e.
-      let a = slot-shown t i h u in
-      let b = pend-shown t j k v in
+      let a = slot_shown t i h u in
+      let b = pend_shown t j k v in
       slot_not_pend i j (good.apart.distinct (Slot i) (Pend j) a.0 b.0 (a.1 ∙ e ∙ sym b.1));
 }
 

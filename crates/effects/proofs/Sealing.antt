@@ -44,9 +44,9 @@ use Rattle.views.specs.Views as views
 use Rattle.views.specs.Views.{Place, Slot, Pend, View, standing, view_at, seen, inside}
 use Rattle.views.specs.Effects as effects
 use Rattle.views.specs.Effects.{None, Stays, as_is, ended, kept, made, AskFits, GoalFits, Unconnected, ConnectFits, Good, Does}
-use Rattle.views.proofs.Stores.{words_32, view_inside, view_within, view_else, Unseen, unseen_refl, unseen_trans, store_unseen, put_unseen, time_unseen, emptied_gone, free_view, filled-here, filled-else, moved_here}
+use Rattle.views.proofs.Stores.{words_32, view_inside, view_within, view_else, Unseen, unseen_refl, unseen_trans, store_unseen, put_unseen, time_unseen, emptied_gone, free_view, filled_here, filled_else, moved_here}
 use Rattle.effects.specs.Calls.{Seals, replied}
-use Rattle.effects.proofs.Seen.{both_false, Settled, seen_slot, seen_pend, inside_same, slots_same, all_same, pend-changes, asks_at, still, unchanged}
+use Rattle.effects.proofs.Seen.{both_false, Settled, seen_slot, seen_pend, inside_same, slots_same, all_same, pend_changes, asks_at, still, unchanged}
 
 -- the fresh window has as many places as a table's
 fresh_full : length (fresh width).ring ≡ width
@@ -77,10 +77,10 @@ module _ (t : State) (good : Good t) (slots : Shaped t.slots t.server.set.slots)
     -- ---- the challenge is sealed
 
     -- the address is that of no record: it stands at no slot and was not found among the pending
-    nobody-has : (addr : Address) → Unconnected (seen t) addr → find_address t.pending t.server.set.pending addr ≡ Nothing
+    nobody_has : (addr : Address) → Unconnected (seen t) addr → find_address t.pending t.server.set.pending addr ≡ Nothing
         → (q : Place) → (seen t q).used ≡ true → (seen t q).addr ≡ words_of addr → ⊥
-    nobody-has addr free none (Slot i) used at = free i used at
-    nobody-has addr free none (Pend j) used at =
+    nobody_has addr free none (Slot i) used at = free i used at
+    nobody_has addr free none (Pend j) used at =
         let m = t.server.set.pending in
         let v = seen_pend t settled j in
         let w : (view_at t.pending m j).used ≡ true = ap (λ (x : View). x.used) (sym v) ∙ used in
@@ -92,17 +92,17 @@ module _ (t : State) (good : Good t) (slots : Shaped t.slots t.server.set.slots)
       abbrev u : List ℕ → State
       u p = (came (closed s a) t.slots p).state
 
-      settled-u : (p : List ℕ) → Settled (u p)
+      settled_u : (p : List ℕ) → Settled (u p)
       unfolding with_ask
-      settled-u p = record { none = λ j. refl }
+      settled_u p = record { none = λ j. refl }
 
-      same-u : (p : List ℕ) → (u p).server.set ≡ t.server.set
+      same_u : (p : List ℕ) → (u p).server.set ≡ t.server.set
       unfolding with_ask
-      same-u p = same
+      same_u p = same
 
-      asks-u : (p : List ℕ) → AskFits (inside (u p)) (seen (u p)) (u p).server.ask.stage
+      asks_u : (p : List ℕ) → AskFits (inside (u p)) (seen (u p)) (u p).server.ask.stage
       unfolding with_ask
-      asks-u p = omega arith
+      asks_u p = omega arith
 
       -- a free place takes the newcomer
       takes : (j : ℕ) → find_free t.pending t.server.set.pending ≡ At j → find_address t.pending t.server.set.pending addr ≡ Nothing
@@ -113,38 +113,38 @@ module _ (t : State) (good : Good t) (slots : Shaped t.slots t.server.set.slots)
           let p = filled t.pending m j c in
           let k = (free_found t.pending m j).0 e in
           let h = k.below in
-          let x = filled-here t.pending m j pending h c fresh_full in
-          let v : seen (u p) (Pend j) ≡ view_at p m j = seen_pend (u p) (settled-u p) j ∙ ap (λ (y : _). view_at p y.pending j) (same-u p) in
-          let o = pend-changes t (u p) (same-u p) settled (settled-u p) j (view_at p m j) (as_is refl)
-          (λ q d. view_else m j q t.pending p (filled-else t.pending m j pending h c fresh_full) d) (unseen_refl t.server.set.slots t.slots) in
+          let x = filled_here t.pending m j pending h c fresh_full in
+          let v : seen (u p) (Pend j) ≡ view_at p m j = seen_pend (u p) (settled_u p) j ∙ ap (λ (y : _). view_at p y.pending j) (same_u p) in
+          let o = pend_changes t (u p) (same_u p) settled (settled_u p) j (view_at p m j) (as_is refl)
+          (λ q d. view_else m j q t.pending p (filled_else t.pending m j pending h c fresh_full) d) (unseen_refl t.server.set.slots t.slots) in
           record {
-            places = inside_same t (u p) (same-u p);
+            places = inside_same t (u p) (same_u p);
             effect = made j refl (unfold inside in lt-ltb j m h)
                 (ap (λ (y : View). y.used) (seen_pend t settled j) ∙ free_view t.pending m j pending h k.here)
                 (ap (λ (y : View). y.used) (v ∙ x))
                 (ap (λ (y : View). y.win) (v ∙ x))
-                (λ q used at. nobody-has addr free none q used (at ∙ ap (λ (y : View). y.addr) (v ∙ x)))
+                (λ q used at. nobody_has addr free none q used (at ∙ ap (λ (y : View). y.addr) (v ∙ x)))
                 o.1;
-            ask = asks-u p;
+            ask = asks_u p;
           }
 
-      by-free : find_address t.pending t.server.set.pending addr ≡ Nothing → (x : Found) → find_free t.pending t.server.set.pending ≡ x
+      by_free_lem : find_address t.pending t.server.set.pending addr ≡ Nothing → (x : Found) → find_free t.pending t.server.set.pending ≡ x
           → Does t None (u (by_place t.pending t.server.set.pending held addr time x))
       unfolding by_place
-      by-free none (At j) e = takes j e none
-      by-free none Nothing e =
-          quiet (u t.pending) (same-u t.pending) (settled-u t.pending) (unseen_refl t.server.set.slots t.slots) (unseen_refl t.server.set.pending t.pending) (asks-u t.pending)
+      by_free_lem none (At j) e = takes j e none
+      by_free_lem none Nothing e =
+          quiet (u t.pending) (same_u t.pending) (settled_u t.pending) (unseen_refl t.server.set.slots t.slots) (unseen_refl t.server.set.pending t.pending) (asks_u t.pending)
 
-      by-same : (x : Found) → find_address t.pending t.server.set.pending addr ≡ x → Does t None (u (by_same t.pending t.server.set.pending held addr time x))
+      by_same_lem : (x : Found) → find_address t.pending t.server.set.pending addr ≡ x → Does t None (u (by_same t.pending t.server.set.pending held addr time x))
       unfolding by_same
-      by-same (At j) e =
+      by_same_lem (At j) e =
           let m = t.server.set.pending in
           let h = ((address_found t.pending m pending addr j).0 e).below in
           let b = time_unseen t.pending m j pending h 9 time (omega arith) (omega arith) in
           let c = time_unseen (put_time t.pending _ time) m j (shaped_kept b.long pending) h 11 time (omega arith) (omega arith) in
           let p = by_same t.pending m held addr time (At j) in
-          quiet (u p) (same-u p) (settled-u p) (unseen_refl t.server.set.slots t.slots) (unseen_trans b c) (asks-u p)
-      by-same Nothing e = by-free e (find_free t.pending t.server.set.pending) refl
+          quiet (u p) (same_u p) (settled_u p) (unseen_refl t.server.set.slots t.slots) (unseen_trans b c) (asks_u p)
+      by_same_lem Nothing e = by_free_lem e (find_free t.pending t.server.set.pending) refl
 
   -- ---- a record is on its way to its slot
 
@@ -154,32 +154,32 @@ module _ (t : State) (good : Good t) (slots : Shaped t.slots t.server.set.slots)
     unfolding seen
     pends q = ap (λ (x : Stage). pick (views.leaves x q) (standing (view_at t.pending t.server.set.pending q)) (view_at t.pending t.server.set.pending q)) on
 
-    here-pend : seen t (Pend j) ≡ standing (view_at t.pending t.server.set.pending j)
+    here_pend : seen t (Pend j) ≡ standing (view_at t.pending t.server.set.pending j)
     unfolding pick
-    here-pend = pends j ∙ simp (eq-eqb j j refl)
+    here_pend = pends j ∙ simp (eq-eqb j j refl)
 
-    other-pend : (q : ℕ) → (j ≡ q → ⊥) → seen t (Pend q) ≡ view_at t.pending t.server.set.pending q
+    other_pend : (q : ℕ) → (j ≡ q → ⊥) → seen t (Pend q) ≡ view_at t.pending t.server.set.pending q
     unfolding pick
-    other-pend q d = pends q ∙ simp (ne_eqb j q d)
+    other_pend q d = pends q ∙ simp (ne_eqb j q d)
 
     -- the pending place is empty and the others are as they were
-    pend-after : (u : State) → u.server.set ≡ t.server.set → Settled u → u.pending ≡ emptied t.pending j
+    pend_after : (u : State) → u.server.set ≡ t.server.set → Settled u → u.pending ≡ emptied t.pending j
         → ((seen u (Pend j)).used ≡ false) × ((q : ℕ) → (j ≡ q → ⊥) → seen u (Pend q) ≡ seen t (Pend q))
-    pend-after u same v e =
+    pend_after u same v e =
         let m = t.server.set.pending in
         let w : (q : ℕ) → seen u (Pend q) ≡ view_at (emptied t.pending j) m q =
         λ q. seen_pend u v q ∙ ap (λ (x : _). view_at u.pending x.pending q) same ∙ ap (λ (l : List ℕ). view_at l m q) e in (
           ap (λ (x : View). x.used) (w j) ∙ emptied_gone t.pending m j pending in_pending,
-          λ q d. w q ∙ view_else m j q t.pending (emptied t.pending j) (emptied_elsewhere t.pending m j pending in_pending) d ∙ sym (other-pend q d),
+          λ q d. w q ∙ view_else m j q t.pending (emptied t.pending j) (emptied_elsewhere t.pending m j pending in_pending) d ∙ sym (other_pend q d),
         )
 
     abbrev t1 : List ℕ
     t1 = moved t.slots t.server.set.slots i t.pending t.server.set.pending j
 
     -- user data, counter and sent time of the slot that has it are not seen
-    slots-after : (held : List ℕ) (time : Time)
+    slots_after : (held : List ℕ) (time : Time)
         → Unseen t.server.set.slots t1 (connected t.slots t.server.set.slots i t.pending t.server.set.pending j held sequence time)
-    slots-after held time =
+    slots_after held time =
         let n = t.server.set.slots in
         let s1 = shaped_kept (moved_elsewhere t.slots n i t.pending t.server.set.pending j slots in_slots pending in_pending).long slots in
         let b = put_unseen t1 n i s1 in_slots 16 32 (words 32 (held_user_data held)) (omega arith) (omega arith) (words_32 (held_user_data held)) in
@@ -190,46 +190,46 @@ module _ (t : State) (good : Good t) (slots : Shaped t.slots t.server.set.slots)
       abbrev w : State
       w = (connects t held j i sequence end).state
 
-      settled-c : Settled w
+      settled_c : Settled w
       unfolding connects with_ask
-      settled-c = record { none = λ k. refl }
+      settled_c = record { none = λ k. refl }
 
-      same-c : w.server.set ≡ t.server.set
+      same_c : w.server.set ≡ t.server.set
       unfolding connects with_ask
-      same-c = refl
+      same_c = refl
 
-      asks-c : AskFits (inside w) (seen w) w.server.ask.stage
+      asks_c : AskFits (inside w) (seen w) w.server.ask.stage
       unfolding connects with_ask
-      asks-c = omega arith
+      asks_c = omega arith
 
-      pending-u : w.pending ≡ emptied t.pending j
+      pending_u : w.pending ≡ emptied t.pending j
       unfolding connects
-      pending-u = refl
+      pending_u = refl
 
-      slot-u : (k : ℕ) → seen w (Slot k) ≡ view_at t1 t.server.set.slots k
+      slot_u : (k : ℕ) → seen w (Slot k) ≡ view_at t1 t.server.set.slots k
       unfolding connects with_ask
-      slot-u k = seen_slot w k ∙ (slots-after held t.server.current_time).same k
+      slot_u k = seen_slot w k ∙ (slots_after held t.server.current_time).same k
 
-      other-u : (q : Place) → (Pend j ≡ q → ⊥) → (Slot i ≡ q → ⊥) → seen w q ≡ seen t q
-      other-u (Slot k) d e =
+      other_u : (q : Place) → (Pend j ≡ q → ⊥) → (Slot i ≡ q → ⊥) → seen w q ≡ seen t q
+      other_u (Slot k) d e =
           let n = t.server.set.slots in
-          slot-u k
+          slot_u k
           ∙ view_else n i k t.slots t1 (moved_elsewhere t.slots n i t.pending t.server.set.pending j slots in_slots pending in_pending) (λ x. e (ap Slot x))
           ∙ sym (seen_slot t k)
-      other-u (Pend q) d e = (pend-after w same-c settled-c pending-u).1 q (λ x. d (ap Pend x))
+      other_u (Pend q) d e = (pend_after w same_c settled_c pending_u).1 q (λ x. d (ap Pend x))
 
-      connect-does : Does t None w
-      connect-does = record {
-        places = inside_same t w same-c;
-        effect = effects.moved j i refl fit.in_slots fit.from fit.to (pend-after w same-c settled-c pending-u).0
-            (slot-u i ∙ moved_here t.slots t.server.set.slots i t.pending t.server.set.pending j slots in_slots pending in_pending ∙ sym here-pend)
-            other-u;
-        ask = asks-c;
+      connect_does : Does t None w
+      connect_does = record {
+        places = inside_same t w same_c;
+        effect = effects.moved j i refl fit.in_slots fit.from fit.to (pend_after w same_c settled_c pending_u).0
+            (slot_u i ∙ moved_here t.slots t.server.set.slots i t.pending t.server.set.pending j slots in_slots pending in_pending ∙ sym here_pend)
+            other_u;
+        ask = asks_c;
       }
 
     -- a no: the record has ended
-    stays-or-ends : (v : View) → Stays (standing v) v
-    stays-or-ends v = by_test v.used (λ e. as_is (ap (λ (b : Bool). views.view b v.addr v.key v.id v.win) e)) (λ e. ended e)
+    stays_or_ends : (v : View) → Stays (standing v) v
+    stays_or_ends v = by_test v.used (λ e. as_is (ap (λ (b : Bool). views.view b v.addr v.key v.id v.win) e)) (λ e. ended e)
 
     abandoned : (u : State) → u.server.set ≡ t.server.set → Settled u → u.slots ≡ t.slots → u.pending ≡ t.pending → (q : Place) → Stays (seen t q) (seen u q)
     abandoned u same v e f (Slot k) = as_is (slots_same t u same (rw e (unseen_refl t.server.set.slots t.slots)) k)
@@ -239,9 +239,9 @@ module _ (t : State) (good : Good t) (slots : Shaped t.slots t.server.set.slots)
         by_test (eqb j q)
         (λ z.
         let k : j ≡ q = eqb-true j q z in
-        let h : seen t (Pend q) ≡ standing (view_at t.pending m q) = ap (λ (r : ℕ). seen t (Pend r)) (sym k) ∙ here-pend ∙ ap (λ (r : ℕ). standing (view_at t.pending m r)) k in
-        rw (x, h) (stays-or-ends (view_at t.pending m q)))
-        (λ z. as_is (x ∙ sym (other-pend q (eqb-false j q z))))
+        let h : seen t (Pend q) ≡ standing (view_at t.pending m q) = ap (λ (r : ℕ). seen t (Pend r)) (sym k) ∙ here_pend ∙ ap (λ (r : ℕ). standing (view_at t.pending m r)) k in
+        rw (x, h) (stays_or_ends (view_at t.pending m q)))
+        (λ z. as_is (x ∙ sym (other_pend q (eqb-false j q z))))
 
     abandons : (a : Answer) → Does t None (leaves t (closed t.server a)).state
     unfolding with_ask
@@ -251,68 +251,68 @@ module _ (t : State) (good : Good t) (slots : Shaped t.slots t.server.set.slots)
 
   -- ---- by the goal
 
-  goal-settled : (g : Goal) (sequence end : ℕ) → t.server.ask.stage ≡ stage.Seal g sequence end → ((j : ℕ) → views.goalLeaves g j ≡ false) → Settled t
-  goal-settled g sequence end e k = record { none = λ j. ap (λ (x : Stage). views.leaves x j) e ∙ k j }
+  goal_settled : (g : Goal) (sequence end : ℕ) → t.server.ask.stage ≡ stage.Seal g sequence end → ((j : ℕ) → views.goalLeaves g j ≡ false) → Settled t
+  goal_settled g sequence end e k = record { none = λ j. ap (λ (x : Stage). views.leaves x j) e ∙ k j }
 
-  goal-fits : (g : Goal) (sequence end : ℕ) → t.server.ask.stage ≡ stage.Seal g sequence end → GoalFits (inside t) (seen t) g
-  goal-fits g sequence end e = asks_at (inside t) (seen t) (stage.Seal g sequence end) t.server.ask.stage (sym e) good.ask
+  goal_fits : (g : Goal) (sequence end : ℕ) → t.server.ask.stage ≡ stage.Seal g sequence end → GoalFits (inside t) (seen t) g
+  goal_fits g sequence end e = asks_at (inside t) (seen t) (stage.Seal g sequence end) t.server.ask.stage (sym e) good.ask
 
   -- the packet around a sealed challenge token is to be sealed
-  asks-packet : (held : List ℕ) (out : ℕ) (addr : Address) (sequence end : ℕ) → t.server.ask.stage ≡ stage.Seal (goal.ChallengeToken addr) sequence end
+  asks_packet : (held : List ℕ) (out : ℕ) (addr : Address) (sequence end : ℕ) → t.server.ask.stage ≡ stage.Seal (goal.ChallengeToken addr) sequence end
       → Does t None (leaves t (packet_asked t.server held out addr sequence end)).state
   unfolding packet_asked with_ask
-  asks-packet held out addr sequence end e =
+  asks_packet held out addr sequence end e =
       let u = (leaves t (packet_asked t.server held out addr sequence end)).state in
-      let f = goal-fits (goal.ChallengeToken addr) sequence end e in
-      quiet (goal-settled (goal.ChallengeToken addr) sequence end e (λ j. refl)) u refl (record { none = λ j. refl }) (unseen_refl t.server.set.slots t.slots)
+      let f = goal_fits (goal.ChallengeToken addr) sequence end e in
+      quiet (goal_settled (goal.ChallengeToken addr) sequence end e (λ j. refl)) u refl (record { none = λ j. refl }) (unseen_refl t.server.set.slots t.slots)
       (unseen_refl t.server.set.pending t.pending)
       (λ k used at. let v : seen u (Slot k) ≡ seen t (Slot k) = seen_slot u k ∙ sym (seen_slot t k) in f k (ap (λ (x : View). x.used) (sym v) ∙ used) (ap (λ (x : View). x.addr) (sym v) ∙ at))
 
   -- a packet of a slot was sent
-  slot-sent : (i sequence end : ℕ) → t.server.ask.stage ≡ stage.Seal (goal.Sending i) sequence end → i < t.server.set.slots
+  slot_sent_lem : (i sequence end : ℕ) → t.server.ask.stage ≡ stage.Seal (goal.Sending i) sequence end → i < t.server.set.slots
       → Does t None (from_slot t (sends t.server t.slots i sequence end)).state
   unfolding sends with_ask
-  slot-sent i sequence end e h =
+  slot_sent_lem i sequence end e h =
       let u = (from_slot t (sends t.server t.slots i sequence end)).state in
-      quiet (goal-settled (goal.Sending i) sequence end e (λ j. refl)) u refl (record { none = λ j. refl })
+      quiet (goal_settled (goal.Sending i) sequence end e (λ j. refl)) u refl (record { none = λ j. refl })
       (sent_unseen t.slots t.server.set.slots i slots h sequence t.server.current_time) (unseen_refl t.server.set.pending t.pending) (omega arith)
 
-  sealed-does : (held : List ℕ) (out sequence end : ℕ) (g : Goal) → t.server.ask.stage ≡ stage.Seal g sequence end → goal_misfits g t.server.set.slots t.server.set.pending ≡ false
+  sealed_does : (held : List ℕ) (out sequence end : ℕ) (g : Goal) → t.server.ask.stage ≡ stage.Seal g sequence end → goal_misfits g t.server.set.slots t.server.set.pending ≡ false
       → Does t None (sealed t held out sequence end g).state
   unfolding sealed sends with_counters goal_misfits
-  sealed-does held out sequence end (goal.Denied addr) e k = ends (goal-settled (goal.Denied addr) sequence end e (λ j. refl)) (spent t.server sequence) (answer.PacketToSend addr end) refl
-  sealed-does held out sequence end (goal.ChallengeToken addr) e k = asks-packet held out addr sequence end e
-  sealed-does held out sequence end (goal.ChallengePacket addr) e k =
-      by-same (goal-settled (goal.ChallengePacket addr) sequence end e (λ j. refl)) addr (goal-fits (goal.ChallengePacket addr) sequence end e) held t.server.current_time
+  sealed_does held out sequence end (goal.Denied addr) e k = ends (goal_settled (goal.Denied addr) sequence end e (λ j. refl)) (spent t.server sequence) (answer.PacketToSend addr end) refl
+  sealed_does held out sequence end (goal.ChallengeToken addr) e k = asks_packet held out addr sequence end e
+  sealed_does held out sequence end (goal.ChallengePacket addr) e k =
+      by_same_lem (goal_settled (goal.ChallengePacket addr) sequence end e (λ j. refl)) addr (goal_fits (goal.ChallengePacket addr) sequence end e) held t.server.current_time
       (spent t.server sequence) (answer.PacketToSend addr end) refl
       (find_address t.pending t.server.set.pending addr) refl
-  sealed-does held out sequence end (goal.Connecting j i) e k =
+  sealed_does held out sequence end (goal.Connecting j i) e k =
       let b = both_false (leb t.server.set.pending j) (leb t.server.set.slots i) k in
-      connect-does j i sequence end e (goal-fits (goal.Connecting j i) sequence end e) (leb-false t.server.set.pending j b.0) (leb-false t.server.set.slots i b.1) held
-  sealed-does held out sequence end (goal.Sending i) e k = slot-sent i sequence end e (leb-false t.server.set.slots i k)
-  sealed-does held out sequence end (goal.Ending id addr) e k = ends (goal-settled (goal.Ending id addr) sequence end e (λ j. refl)) t.server (answer.ClientDisconnected id addr end 0) refl
+      connect_does j i sequence end e (goal_fits (goal.Connecting j i) sequence end e) (leb-false t.server.set.pending j b.0) (leb-false t.server.set.slots i b.1) held
+  sealed_does held out sequence end (goal.Sending i) e k = slot_sent_lem i sequence end e (leb-false t.server.set.slots i k)
+  sealed_does held out sequence end (goal.Ending id addr) e k = ends (goal_settled (goal.Ending id addr) sequence end e (λ j. refl)) t.server (answer.ClientDisconnected id addr end 0) refl
 
-  unsealed-does : (sequence end : ℕ) (g : Goal) → t.server.ask.stage ≡ stage.Seal g sequence end → goal_misfits g t.server.set.slots t.server.set.pending ≡ false
+  unsealed_does : (sequence end : ℕ) (g : Goal) → t.server.ask.stage ≡ stage.Seal g sequence end → goal_misfits g t.server.set.slots t.server.set.pending ≡ false
       → Does t None (leaves t (unsealed t.server g)).state
   unfolding unsealed goal_misfits
-  unsealed-does sequence end (goal.Denied addr) e k = ends (goal-settled (goal.Denied addr) sequence end e (λ j. refl)) t.server (answer.Refused 24) refl
-  unsealed-does sequence end (goal.ChallengeToken addr) e k = ends (goal-settled (goal.ChallengeToken addr) sequence end e (λ j. refl)) t.server (answer.Refused 24) refl
-  unsealed-does sequence end (goal.ChallengePacket addr) e k = ends (goal-settled (goal.ChallengePacket addr) sequence end e (λ j. refl)) t.server (answer.Refused 24) refl
-  unsealed-does sequence end (goal.Connecting j i) e k =
+  unsealed_does sequence end (goal.Denied addr) e k = ends (goal_settled (goal.Denied addr) sequence end e (λ j. refl)) t.server (answer.Refused 24) refl
+  unsealed_does sequence end (goal.ChallengeToken addr) e k = ends (goal_settled (goal.ChallengeToken addr) sequence end e (λ j. refl)) t.server (answer.Refused 24) refl
+  unsealed_does sequence end (goal.ChallengePacket addr) e k = ends (goal_settled (goal.ChallengePacket addr) sequence end e (λ j. refl)) t.server (answer.Refused 24) refl
+  unsealed_does sequence end (goal.Connecting j i) e k =
       let b = both_false (leb t.server.set.pending j) (leb t.server.set.slots i) k in
-      abandons j i sequence end e (goal-fits (goal.Connecting j i) sequence end e) (leb-false t.server.set.pending j b.0) (leb-false t.server.set.slots i b.1) (answer.Refused 24)
-  unsealed-does sequence end (goal.Sending i) e k = ends (goal-settled (goal.Sending i) sequence end e (λ j. refl)) t.server (answer.Refused 24) refl
-  unsealed-does sequence end (goal.Ending id addr) e k = ends (goal-settled (goal.Ending id addr) sequence end e (λ j. refl)) t.server (answer.ClientDisconnected id addr 0 24) refl
+      abandons j i sequence end e (goal_fits (goal.Connecting j i) sequence end e) (leb-false t.server.set.pending j b.0) (leb-false t.server.set.slots i b.1) (answer.Refused 24)
+  unsealed_does sequence end (goal.Sending i) e k = ends (goal_settled (goal.Sending i) sequence end e (λ j. refl)) t.server (answer.Refused 24) refl
+  unsealed_does sequence end (goal.Ending id addr) e k = ends (goal_settled (goal.Ending id addr) sequence end e (λ j. refl)) t.server (answer.ClientDisconnected id addr 0 24) refl
 
-  stage-does : (granted : Bool) (held : List ℕ) (out : ℕ) (x : Stage) → t.server.ask.stage ≡ x → kind_of x ≡ 3
+  stage_does : (granted : Bool) (held : List ℕ) (out : ℕ) (x : Stage) → t.server.ask.stage ≡ x → kind_of x ≡ 3
       → misfits x t.server.set.slots t.server.set.pending t.server.ask.datagram out ≡ false → Does t None (by_stage t granted held out x).state
   unfolding by_stage kind_of misfits seal_misfits pick
-  stage-does granted held out stage.Idle e k m = absurd (omega arith)
-  stage-does granted held out (stage.Packet a b c d f) e k m = absurd (omega arith)
-  stage-does granted held out (stage.Token a b c d) e k m = absurd (omega arith)
-  stage-does granted held out (stage.Challenge a b) e k m = absurd (omega arith)
-  stage-does true held out (stage.Seal g sequence end) e k m = sealed-does held out sequence end g e (both_false (goal_misfits g t.server.set.slots t.server.set.pending) _ m).0
-  stage-does false held out (stage.Seal g sequence end) e k m = unsealed-does sequence end g e (both_false (goal_misfits g t.server.set.slots t.server.set.pending) _ m).0
+  stage_does granted held out stage.Idle e k m = absurd (omega arith)
+  stage_does granted held out (stage.Packet a b c d f) e k m = absurd (omega arith)
+  stage_does granted held out (stage.Token a b c d) e k m = absurd (omega arith)
+  stage_does granted held out (stage.Challenge a b) e k m = absurd (omega arith)
+  stage_does true held out (stage.Seal g sequence end) e k m = sealed_does held out sequence end g e (both_false (goal_misfits g t.server.set.slots t.server.set.pending) _ m).0
+  stage_does false held out (stage.Seal g sequence end) e k m = unsealed_does sequence end g e (both_false (goal_misfits g t.server.set.slots t.server.set.pending) _ m).0
 
 -- THE EFFECT OF AN ANSWER TO A SEAL: nothing is accepted; a record is made, or moves, or ends, or all stand as they were
 pub seals_does : (t : State) → Good t → (granted : Bool) (held : List ℕ) (out : ℕ) → Does t None (replied t (Seals granted held out))
@@ -326,5 +326,5 @@ seals_does t good granted held out = by (eqb (seal_refusal t out) 0) refl
     by true e =
         let a = answer_fits t.server.ask both 3 t.server.set t.server.ask.datagram out (eqb-true (seal_refusal t out) 0 e) in
         let s = both_shaped t.server.set t.slots t.pending a.tabled in
-        stage-does t good s.0 s.1 granted held out t.server.ask.stage refl a.wanted a.fitting
+        stage_does t good s.0 s.1 granted held out t.server.ask.stage refl a.wanted a.fitting
     by false e = unchanged t good.ask

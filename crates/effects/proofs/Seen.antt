@@ -46,18 +46,18 @@ module _ (t u : State) (same : u.server.set ≡ t.server.set) where
   inside_same (Slot i) = ap (λ (x : SetUp). ltb i x.slots) same
   inside_same (Pend j) = ap (λ (x : SetUp). ltb j x.pending) same
 
-  slot-view : (i : ℕ) → view_at u.slots t.server.set.slots i ≡ seen u (Slot i)
-  slot-view i = ap (λ (x : SetUp). view_at u.slots x.slots i) (sym same) ∙ sym (seen_slot u i)
+  slot_view : (i : ℕ) → view_at u.slots t.server.set.slots i ≡ seen u (Slot i)
+  slot_view i = ap (λ (x : SetUp). view_at u.slots x.slots i) (sym same) ∙ sym (seen_slot u i)
 
-  pend-view : Settled u → (j : ℕ) → view_at u.pending t.server.set.pending j ≡ seen u (Pend j)
-  pend-view s j = ap (λ (x : SetUp). view_at u.pending x.pending j) (sym same) ∙ sym (seen_pend u s j)
+  pend_view : Settled u → (j : ℕ) → view_at u.pending t.server.set.pending j ≡ seen u (Pend j)
+  pend_view s j = ap (λ (x : SetUp). view_at u.pending x.pending j) (sym same) ∙ sym (seen_pend u s j)
 
   -- slots whose views are the same
   pub slots_same : Unseen t.server.set.slots t.slots u.slots → (i : ℕ) → seen u (Slot i) ≡ seen t (Slot i)
-  slots_same k i = sym (slot-view i) ∙ k.same i ∙ sym (seen_slot t i)
+  slots_same k i = sym (slot_view i) ∙ k.same i ∙ sym (seen_slot t i)
 
   pub pending_same : Settled t → Settled u → Unseen t.server.set.pending t.pending u.pending → (j : ℕ) → seen u (Pend j) ≡ seen t (Pend j)
-  pending_same s v k j = sym (pend-view v j) ∙ k.same j ∙ sym (seen_pend t s j)
+  pending_same s v k j = sym (pend_view v j) ∙ k.same j ∙ sym (seen_pend t s j)
 
   module _ (s : Settled t) (v : Settled u) where
     pub all_same : Unseen t.server.set.slots t.slots u.slots → Unseen t.server.set.pending t.pending u.pending
@@ -67,33 +67,33 @@ module _ (t u : State) (same : u.server.set ≡ t.server.set) where
 
     -- ---- one place changed: x is what it had to become, or it is empty
 
-    pub slot-changes : (i : ℕ) (x : View) → Stays x (view_at u.slots t.server.set.slots i)
+    pub slot_changes : (i : ℕ) (x : View) → Stays x (view_at u.slots t.server.set.slots i)
         → ((q : ℕ) → (i ≡ q → ⊥) → view_at u.slots t.server.set.slots q ≡ view_at t.slots t.server.set.slots q)
         → Unseen t.server.set.pending t.pending u.pending
         → Stays x (seen u (Slot i)) × Others (seen t) (seen u) (Slot i)
-    slot-changes i x here else rest = (onto here, others)
+    slot_changes i x here else rest = (onto here, others)
       where
         onto : Stays x (view_at u.slots t.server.set.slots i) → Stays x (seen u (Slot i))
-        onto (as_is e) = as_is (sym (slot-view i) ∙ e)
-        onto (ended e) = ended (ap (λ (w : View). w.used) (sym (slot-view i)) ∙ e)
+        onto (as_is e) = as_is (sym (slot_view i) ∙ e)
+        onto (ended e) = ended (ap (λ (w : View). w.used) (sym (slot_view i)) ∙ e)
 
         others : Others (seen t) (seen u) (Slot i)
-        others (Slot q) d = sym (slot-view q) ∙ else q (λ e. d (ap Slot e)) ∙ sym (seen_slot t q)
+        others (Slot q) d = sym (slot_view q) ∙ else q (λ e. d (ap Slot e)) ∙ sym (seen_slot t q)
         others (Pend j) d = pending_same s v rest j
 
-    pub pend-changes : (j : ℕ) (x : View) → Stays x (view_at u.pending t.server.set.pending j)
+    pub pend_changes : (j : ℕ) (x : View) → Stays x (view_at u.pending t.server.set.pending j)
         → ((q : ℕ) → (j ≡ q → ⊥) → view_at u.pending t.server.set.pending q ≡ view_at t.pending t.server.set.pending q)
         → Unseen t.server.set.slots t.slots u.slots
         → Stays x (seen u (Pend j)) × Others (seen t) (seen u) (Pend j)
-    pend-changes j x here else rest = (onto here, others)
+    pend_changes j x here else rest = (onto here, others)
       where
         onto : Stays x (view_at u.pending t.server.set.pending j) → Stays x (seen u (Pend j))
-        onto (as_is e) = as_is (sym (pend-view v j) ∙ e)
-        onto (ended e) = ended (ap (λ (w : View). w.used) (sym (pend-view v j)) ∙ e)
+        onto (as_is e) = as_is (sym (pend_view v j) ∙ e)
+        onto (ended e) = ended (ap (λ (w : View). w.used) (sym (pend_view v j)) ∙ e)
 
         others : Others (seen t) (seen u) (Pend j)
         others (Slot i) d = slots_same rest i
-        others (Pend q) d = sym (pend-view v q) ∙ else q (λ e. d (ap Pend e)) ∙ sym (seen_pend t s q)
+        others (Pend q) d = sym (pend_view v q) ∙ else q (λ e. d (ap Pend e)) ∙ sym (seen_pend t s q)
 
 -- ---- what an ask says, by its stage
 

@@ -33,7 +33,7 @@ use Rattle.views.specs.Effects.{None, as_is, ended, kept, AskFits, Good, Does}
 use Rattle.views.proofs.Stores.{view_else, unseen_refl, emptied_gone}
 use Rattle.views.proofs.Spread.{by_place_lem}
 use Rattle.effects.specs.Calls.{Service, Generates, Refreshes, Disconnects, client_of, serviced, served}
-use Rattle.effects.proofs.Seen.{pick_all, inside_same, all_same, slot-changes, still, unchanged}
+use Rattle.effects.proofs.Seen.{pick_all, inside_same, all_same, slot_changes, still, unchanged}
 use Rattle.effects.proofs.Arriving.{stage_settled}
 
 -- ---- what such a call may leave of record and slots
@@ -58,33 +58,33 @@ module _ (s : NetcodeServer) (slots : List ℕ) (id : ℕ) where
   abbrev Says : Spoken → Type 0
   Says x = Way (keeping slots x)
 
-  sending-way : (i : ℕ) → Finds s slots id i → (p : Packet) (bytes key : List ℕ) (sequence : ℕ) (out : List ℕ) → Says (sending_under s i p bytes key sequence out)
+  sending_way : (i : ℕ) → Finds s slots id i → (p : Packet) (bytes key : List ℕ) (sequence : ℕ) (out : List ℕ) → Says (sending_under s i p bytes key sequence out)
   unfolding sending_under
-  sending-way i f p bytes key sequence out = pick_all Says _ (λ _. same) (λ _. pick_all Says _ (λ _. same) (λ _. asks i f sequence _ (length out)))
+  sending_way i f p bytes key sequence out = pick_all Says _ (λ _. same) (λ _. pick_all Says _ (λ _. same) (λ _. asks i f sequence _ (length out)))
 
-  ending-way : (i : ℕ) → Finds s slots id i → (addr : Address) (key : List ℕ) (sequence : ℕ) (out : List ℕ) → Way (ending_under s id slots i addr key sequence out)
+  ending_way : (i : ℕ) → Finds s slots id i → (addr : Address) (key : List ℕ) (sequence : ℕ) (out : List ℕ) → Way (ending_under s id slots i addr key sequence out)
   unfolding ending_under
-  ending-way i f addr key sequence out = pick_all Way _ (λ _. ends i f) (λ _. pick_all Way _ (λ _. same) (λ _. ends_asking i f addr sequence _ (length out)))
+  ending_way i f addr key sequence out = pick_all Way _ (λ _. ends i f) (λ _. pick_all Way _ (λ _. same) (λ _. ends_asking i f addr sequence _ (length out)))
 
   module _ (ready : ready_refusal s (length slots) ≡ 0) (out : List ℕ) where
-    client-way : (payload : List ℕ) (x : Found) → find_id slots s.set.slots id ≡ x → Says (by_client s slots payload out x)
+    client_way : (payload : List ℕ) (x : Found) → find_id slots s.set.slots id ≡ x → Says (by_client s slots payload out x)
     unfolding by_client
-    client-way payload (At i) e = sending-way i (record { ready = ready; found = e }) packet.Payload payload _ _ out
-    client-way payload Nothing e = same
+    client_way payload (At i) e = sending_way i (record { ready = ready; found = e }) packet.Payload payload _ _ out
+    client_way payload Nothing e = same
 
-    updated-way : (x : Found) → find_id slots s.set.slots id ≡ x → Way (updated_at s id slots out x)
+    updated_way : (x : Found) → find_id slots s.set.slots id ≡ x → Way (updated_at s id slots out x)
     unfolding updated_at slot_updated
-    updated-way (At i) e =
+    updated_way (At i) e =
         let f : Finds s slots id i = record { ready = ready; found = e } in
         pick_all Way _
-        (λ _. ending-way i f _ _ _ out)
-        (λ _. pick_all Way _ (λ _. sending-way i f (keep_alive s.max_clients i) [] _ _ out) (λ _. same))
-    updated-way Nothing e = same
+        (λ _. ending_way i f _ _ _ out)
+        (λ _. pick_all Way _ (λ _. sending_way i f (keep_alive s.max_clients i) [] _ _ out) (λ _. same))
+    updated_way Nothing e = same
 
-    ended-way : (x : Found) → find_id slots s.set.slots id ≡ x → Way (ended_at s id slots out x)
+    ended_way : (x : Found) → find_id slots s.set.slots id ≡ x → Way (ended_at s id slots out x)
     unfolding ended_at
-    ended-way (At i) e = ending-way i (record { ready = ready; found = e }) _ _ _ out
-    ended-way Nothing e = same
+    ended_way (At i) e = ending_way i (record { ready = ready; found = e }) _ _ _ out
+    ended_way Nothing e = same
 
 -- every way through the three calls
 pub service_leaves : (s : NetcodeServer) (slots : List ℕ) (v : Service) → Leaves s slots (client_of v) (serviced s slots v).turn.server (serviced s slots v).slots
@@ -93,12 +93,12 @@ service_leaves s slots (Generates id payload out) =
     pick_all (Says s slots id) _
     (λ e.
     let r = (neither (ready_refusal s (length slots)) _ (eqb-true (payload_refusal s (length slots) (length payload)) 0 e)).0 in
-    client-way s slots id r out payload (find_id slots s.set.slots id) refl)
+    client_way s slots id r out payload (find_id slots s.set.slots id) refl)
     (λ _. same)
 service_leaves s slots (Refreshes id out) =
-    pick_all (Way s slots id) _ (λ e. updated-way s slots id (eqb-true _ 0 e) out (find_id slots s.set.slots id) refl) (λ _. same)
+    pick_all (Way s slots id) _ (λ e. updated_way s slots id (eqb-true _ 0 e) out (find_id slots s.set.slots id) refl) (λ _. same)
 service_leaves s slots (Disconnects id out) =
-    pick_all (Way s slots id) _ (λ e. ended-way s slots id (eqb-true _ 0 e) out (find_id slots s.set.slots id) refl) (λ _. same)
+    pick_all (Way s slots id) _ (λ e. ended_way s slots id (eqb-true _ 0 e) out (find_id slots s.set.slots id) refl) (λ _. same)
 
 -- ---- what that does to the records
 
@@ -122,11 +122,11 @@ module _ (t : State) where
     fits : (ins : Place → Bool) (f : Place → View) → AskFits ins f s.ask.stage
 
   module _ (id i : ℕ) (f : Finds t.server t.slots id i) where
-    was-idle : t.server.ask.stage ≡ Idle
-    was-idle = (ready_shaped t.server t.slots f.ready).0
+    was_idle : t.server.ask.stage ≡ Idle
+    was_idle = (ready_shaped t.server t.slots f.ready).0
 
-    as-was : Steps t.server
-    as-was = record { set = refl; none = (stage_settled t was-idle).none; fits = λ ins g. rw was-idle (omega arith) }
+    as_was : Steps t.server
+    as_was = record { set = refl; none = (stage_settled t was_idle).none; fits = λ ins g. rw was_idle (omega arith) }
 
     -- the slots as they were
     stays : (s : NetcodeServer) → Steps s → Does t None (state s t.slots t.pending)
@@ -136,7 +136,7 @@ module _ (t : State) where
         let u = state s t.slots t.pending in
         record {
           places = inside_same t u k.set;
-          effect = still (all_same t u k.set (stage_settled t was-idle) (record { none = k.none }) (unseen_refl n t.slots) (unseen_refl m t.pending));
+          effect = still (all_same t u k.set (stage_settled t was_idle) (record { none = k.none }) (unseen_refl n t.slots) (unseen_refl m t.pending));
           ask = k.fits _ (seen u);
         }
 
@@ -146,7 +146,7 @@ module _ (t : State) where
         let n = t.server.set.slots in
         let u = state s (emptied t.slots i) t.pending in
         let b = finds_below t.server t.slots id i f in
-        let c = slot-changes t u k.set (stage_settled t was-idle) (record { none = k.none }) i (seen t (Slot i))
+        let c = slot_changes t u k.set (stage_settled t was_idle) (record { none = k.none }) i (seen t (Slot i))
         (ended (emptied_gone t.slots n i b.0 b.1))
         (λ q d. view_else n i q t.slots (emptied t.slots i) (emptied_elsewhere t.slots n i b.0 b.1) d)
         (unseen_refl t.server.set.pending t.pending) in
@@ -156,13 +156,13 @@ module _ (t : State) where
           ask = k.fits _ (seen u);
         }
 
-  leaves-does : Good t → (id : ℕ) (s : NetcodeServer) (l : List ℕ) → Leaves t.server t.slots id s l → Does t None (state s l t.pending)
+  leaves_does : Good t → (id : ℕ) (s : NetcodeServer) (l : List ℕ) → Leaves t.server t.slots id s l → Does t None (state s l t.pending)
   unfolding with_ask
-  leaves-does good id s l same = unchanged t good.ask
-  leaves-does good id s l (asks i f sequence end out) = stays id i f _ (record { set = refl; none = λ j. refl; fits = λ ins g. omega arith })
-  leaves-does good id s l (ends i f) = empties id i f t.server (as-was id i f)
-  leaves-does good id s l (ends_asking i f addr sequence end out) = empties id i f _ (record { set = refl; none = λ j. refl; fits = λ ins g. omega arith })
+  leaves_does good id s l same = unchanged t good.ask
+  leaves_does good id s l (asks i f sequence end out) = stays id i f _ (record { set = refl; none = λ j. refl; fits = λ ins g. omega arith })
+  leaves_does good id s l (ends i f) = empties id i f t.server (as_was id i f)
+  leaves_does good id s l (ends_asking i f addr sequence end out) = empties id i f _ (record { set = refl; none = λ j. refl; fits = λ ins g. omega arith })
 
 -- THE EFFECT OF A CALL FOR A CLIENT: nothing is accepted; every place is seen as it was, but for a slot that ends
 pub serves_does : (t : State) → Good t → (v : Service) → Does t None (served t v)
-serves_does t good v = leaves-does t good (client_of v) _ _ (service_leaves t.server t.slots v)
+serves_does t good v = leaves_does t good (client_of v) _ _ (service_leaves t.server t.slots v)

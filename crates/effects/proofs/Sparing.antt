@@ -31,7 +31,7 @@ use Rattle.places.proofs.Frame.{shaped_kept, elsewhere_refl, elsewhere_trans, el
 use Rattle.places.proofs.Ways.{empty_unused}
 use Rattle.places.proofs.Searches.{address_found, free_found, true_false}
 use Rattle.records.specs.Records.{emptied, moved, put_time}
-use Rattle.records.proofs.Kept.{emptied_elsewhere, time-elsewhere}
+use Rattle.records.proofs.Kept.{emptied_elsewhere, time_elsewhere}
 use Rattle.records.proofs.ReadBack.{moved_elsewhere}
 use Rattle.decode.specs.declared.Kind.{Kind}
 use Rattle.decode.specs.declared.Kind.TheVariants as kindly
@@ -73,7 +73,7 @@ use Rattle.effects.proofs.Serving.{Finds, Leaves, same, asks, ends, ends_asking,
 -- ---- what a write at place i leaves of the others
 
 elsewhere_time : (t : List ℕ) (n i : ℕ) → Shaped t n → i < n → (o : ℕ) → o + 2 ≤ 305 → (v : Time) → Elsewhere n i t (put_time t (body_at n i + o) v)
-elsewhere_time t n i s h o w v = time-elsewhere t n i s h o (omega arith) v
+elsewhere_time t n i s h o w v = time_elsewhere t n i s h o (omega arith) v
 
 elsewhere_accepted : (t : List ℕ) (n i : ℕ) → Shaped t n → i < n → (kind : PacketType) (sequence : ℕ) → Elsewhere n i t (accepted t n i kind sequence)
 unfolding accepted
@@ -137,8 +137,8 @@ module _ (base : List ℕ) (n k : ℕ) (inside : k < n) (used : used_at base k �
       let x : Elsewhere n i t u = rw e at w in
       x.same k inside d g in_place ∙ b g in_place
 
-  still-used : (t : List ℕ) → Kept base t n k → used_at t k ≡ true
-  still-used t b = used_alike n k base t (b columns.mark (omega arith)) ∙ used
+  still_used : (t : List ℕ) → Kept base t n k → used_at t k ≡ true
+  still_used t b = used_alike n k base t (b columns.mark (omega arith)) ∙ used
 
   -- the slots as they were, and an ask that is not about slot k
   record Turns (t : State) (s : NetcodeServer) : Type 0 where
@@ -154,65 +154,65 @@ module _ (base : List ℕ) (n k : ℕ) (inside : k < n) (used : used_at base k �
       (far : field_of t.slots n k columns.addr ≡ words_of addr → ⊥)
       (slots : Shaped t.slots t.server.set.slots) (out : ℕ) (d : List ℕ) where
     -- the slot that the address finds is another
-    other-slot : (i : ℕ) → sender_in t addr ≡ Connected i → (i < t.server.set.slots) × (i ≡ k → ⊥)
-    other-slot i e =
+    other_slot : (i : ℕ) → sender_in t addr ≡ Connected i → (i < t.server.set.slots) × (i ≡ k → ⊥)
+    other_slot i e =
         let f = (address_found t.slots t.server.set.slots slots addr i).0
         (slot_found (find_address t.slots t.server.set.slots addr) (find_address t.pending t.server.set.pending addr) i e) in
         (f.below, λ x. far (ap (λ (m : ℕ). field_of t.slots m k columns.addr) (sym spared.places) ∙ ap (λ (q : ℕ). field_of t.slots t.server.set.slots q columns.addr) (sym x) ∙ f.here.1))
 
-    same-record : Turns t t.server
-    same-record = record { set = refl; ask = spared.ask }
+    same_record : Turns t t.server
+    same_record = record { set = refl; ask = spared.ask }
 
-    start-spares : (table : List ℕ) (m : ℕ) (connected : Bool) (i : ℕ) (kind : PacketType) → PacketSpares k connected i → (x : Start)
+    start_spares : (table : List ℕ) (m : ℕ) (connected : Bool) (i : ℕ) (kind : PacketType) → PacketSpares k connected i → (x : Start)
         → Turns t (by_start t.server table m connected i kind out d x).server
     unfolding by_start sealed_at open_asked with_ask
-    start-spares table m connected i kind p (starting.Refused number) = same-record
-    start-spares table m connected i kind p (starting.At sequence start) =
+    start_spares table m connected i kind p (starting.Refused number) = same_record
+    start_spares table m connected i kind p (starting.At sequence start) =
         pick_all (λ (r : Turn). Turns t r.server) _
-        (λ _. pick_all (λ (r : Turn). Turns t r.server) _ (λ _. same-record) (λ _. record { set = refl; ask = p }))
-        (λ _. same-record)
+        (λ _. pick_all (λ (r : Turn). Turns t r.server) _ (λ _. same_record) (λ _. record { set = refl; ask = p }))
+        (λ _. same_record)
 
-    sealed-spares : (kind : PacketType) (x : Sender) → sender_in t addr ≡ x → Turns t (sealed_from t out kind d x).server
+    sealed_spares : (kind : PacketType) (x : Sender) → sender_in t addr ≡ x → Turns t (sealed_from t out kind d x).server
     unfolding sealed_from
-    sealed-spares kind (Connected i) e = start-spares t.slots t.server.set.slots true i kind (other-slot i e).1 (start_at d)
-    sealed-spares kind (Pending j) e = start-spares t.pending t.server.set.pending false j kind (omega arith) (start_at d)
-    sealed-spares kind Unknown e = same-record
+    sealed_spares kind (Connected i) e = start_spares t.slots t.server.set.slots true i kind (other_slot i e).1 (start_at d)
+    sealed_spares kind (Pending j) e = start_spares t.pending t.server.set.pending false j kind (omega arith) (start_at d)
+    sealed_spares kind Unknown e = same_record
 
-    read-spares : Turns t (request_read t.server addr out d).server
+    read_spares : Turns t (request_read t.server addr out d).server
     unfolding request_read token_asked with_ask
-    read-spares = pick_all (λ (r : Turn). Turns t r.server) _ (λ _. record { set = refl; ask = omega arith }) (λ _. same-record)
+    read_spares = pick_all (λ (r : Turn). Turns t r.server) _ (λ _. record { set = refl; ask = omega arith }) (λ _. same_record)
 
-    request-spares : (x : Sender) → sender_in t addr ≡ x → S (request_from t addr out d x).state
+    request_spares : (x : Sender) → sender_in t addr ≡ x → S (request_from t addr out d x).state
     unfolding request_from
-    request-spares (Connected i) e =
-        let o = other-slot i e in
+    request_spares (Connected i) e =
+        let o = other_slot i e in
         let m = t.server.set.slots in
         record {
           places = spared.places;
           kept = kept_on t.slots (request_from t addr out d (Connected i)).state.slots m i spared.places (elsewhere_time t.slots m i slots o.0 9 (omega arith) t.server.current_time) o.1 spared.kept;
           ask = spared.ask;
         }
-    request-spares (Pending j) e = turned t spared (request_read t.server addr out d).server _ read-spares
-    request-spares Unknown e = turned t spared (request_read t.server addr out d).server t.pending read-spares
+    request_spares (Pending j) e = turned t spared (request_read t.server addr out d).server _ read_spares
+    request_spares Unknown e = turned t spared (request_read t.server addr out d).server t.pending read_spares
 
-    kind-spares : (x : Kind) → S (by_kind t addr out d x).state
+    kind_spares : (x : Kind) → S (by_kind t addr out d x).state
     unfolding by_kind kind_arrives
-    kind-spares (kindly.Refused number) = spared
-    kind-spares (kindly.Of kind) =
+    kind_spares (kindly.Refused number) = spared
+    kind_spares (kindly.Of kind) =
         pick_all (λ (o : Outcome). S o.state) _
-        (λ _. pick_all (λ (o : Outcome). S o.state) _ (λ _. spared) (λ _. request-spares (sender_in t addr) refl))
-        (λ _. turned t spared (sealed_from t out kind d (sender_in t addr)).server t.pending (sealed-spares kind (sender_in t addr) refl))
+        (λ _. pick_all (λ (o : Outcome). S o.state) _ (λ _. spared) (λ _. request_spares (sender_in t addr) refl))
+        (λ _. turned t spared (sealed_from t out kind d (sender_in t addr)).server t.pending (sealed_spares kind (sender_in t addr) refl))
 
-  arrives-spares : (t : State) → S t → t.server.ask.stage ≡ stage.Idle → (addr : Address) → (field_of t.slots n k columns.addr ≡ words_of addr → ⊥) → (out : ℕ) (d : List ℕ)
+  arrives_spares : (t : State) → S t → t.server.ask.stage ≡ stage.Idle → (addr : Address) → (field_of t.slots n k columns.addr ≡ words_of addr → ⊥) → (out : ℕ) (d : List ℕ)
       → S (arrives t addr out d).state
   unfolding arrives arrival_refusal
-  arrives-spares t spared idle addr far out d =
+  arrives_spares t spared idle addr far out d =
       pick_all (λ (o : Outcome). S o.state) (eqb (arrival_refusal t addr out) 0)
       (λ e.
       let both = both_refusal t.server.set (length t.slots) (length t.pending) in
       let f = neither (call_refusal t.server.ask both) (lent_refusal addr out) (eqb-true (arrival_refusal t addr out) 0 e) in
       let b = both_shaped t.server.set t.slots t.pending (call_free t.server.ask both f.0).1 in
-      kind-spares t spared idle addr far b.0 out d (type_at d))
+      kind_spares t spared idle addr far b.0 out d (type_at d))
       (λ _. spared)
 
   -- ---- the answers: an ask that is not about slot k
@@ -222,128 +222,128 @@ module _ (base : List ℕ) (n k : ℕ) (inside : k < n) (used : used_at base k �
 
   module _ (t : State) (spared : S t) (slots : Shaped t.slots t.server.set.slots) (pending : Shaped t.pending t.server.set.pending) where
     -- a packet
-    heard-spares : (i : ℕ) → (i ≡ k → ⊥) → i < t.server.set.slots → (kind : PacketType) (sequence start : ℕ) (d : List ℕ) (s : NetcodeServer) → Turns t s
+    heard_spares : (i : ℕ) → (i ≡ k → ⊥) → i < t.server.set.slots → (kind : PacketType) (sequence start : ℕ) (d : List ℕ) (s : NetcodeServer) → Turns t s
         → S (state s (slot_heard t.server t.slots i kind sequence start d).table t.pending)
-    heard-spares i away h kind sequence start d s r = record {
+    heard_spares i away h kind sequence start d s r = record {
       places = ap (λ (x : _). x.slots) r.set ∙ spared.places;
       kept = kept_on t.slots (slot_heard t.server t.slots i kind sequence start d).table t.server.set.slots i spared.places
           (elsewhere_heard t.server t.slots i slots h kind sequence start d) away spared.kept;
       ask = r.ask;
     }
 
-    says-over : (u : List ℕ) (m i start end : ℕ) (p : Packet) → Turns t (slot_says t.server u m i start end p).turn.server
+    says_over : (u : List ℕ) (m i start end : ℕ) (p : Packet) → Turns t (slot_says t.server u m i start end p).turn.server
     unfolding slot_says with_ask
-    says-over u m i start end (packet.ConnectionRequest a b) = record { set = refl; ask = omega arith }
-    says-over u m i start end packet.ConnectionDenied = record { set = refl; ask = omega arith }
-    says-over u m i start end (packet.Challenge a) = record { set = refl; ask = omega arith }
-    says-over u m i start end (packet.Response a) = record { set = refl; ask = omega arith }
-    says-over u m i start end (packet.KeepAlive a b) = record { set = refl; ask = omega arith }
-    says-over u m i start end packet.Payload = record { set = refl; ask = omega arith }
-    says-over u m i start end packet.Disconnect = record { set = refl; ask = omega arith }
+    says_over u m i start end (packet.ConnectionRequest a b) = record { set = refl; ask = omega arith }
+    says_over u m i start end packet.ConnectionDenied = record { set = refl; ask = omega arith }
+    says_over u m i start end (packet.Challenge a) = record { set = refl; ask = omega arith }
+    says_over u m i start end (packet.Response a) = record { set = refl; ask = omega arith }
+    says_over u m i start end (packet.KeepAlive a b) = record { set = refl; ask = omega arith }
+    says_over u m i start end packet.Payload = record { set = refl; ask = omega arith }
+    says_over u m i start end packet.Disconnect = record { set = refl; ask = omega arith }
 
-    body-over : (u : List ℕ) (m i start end : ℕ) (b : Body) → Turns t (slot_body t.server u m i start end b).turn.server
+    body_over : (u : List ℕ) (m i start end : ℕ) (b : Body) → Turns t (slot_body t.server u m i start end b).turn.server
     unfolding slot_body with_ask
-    body-over u m i start end (Whole p) = says-over _ m i start end p
-    body-over u m i start end Short = record { set = refl; ask = omega arith }
+    body_over u m i start end (Whole p) = says_over _ m i start end p
+    body_over u m i start end Short = record { set = refl; ask = omega arith }
 
-    pending-over : (j start datagram out : ℕ) (p : Packet) → Turns t (pending_says t.server j start datagram out p).server
+    pending_over : (j start datagram out : ℕ) (p : Packet) → Turns t (pending_says t.server j start datagram out p).server
     unfolding pending_says challenge_asked with_ask
-    pending-over j start datagram out (packet.ConnectionRequest a b) = record { set = refl; ask = omega arith }
-    pending-over j start datagram out packet.ConnectionDenied = record { set = refl; ask = omega arith }
-    pending-over j start datagram out (packet.Challenge a) = record { set = refl; ask = omega arith }
-    pending-over j start datagram out (packet.Response a) = record { set = refl; ask = omega arith }
-    pending-over j start datagram out (packet.KeepAlive a b) = record { set = refl; ask = omega arith }
-    pending-over j start datagram out packet.Payload = record { set = refl; ask = omega arith }
-    pending-over j start datagram out packet.Disconnect = record { set = refl; ask = omega arith }
+    pending_over j start datagram out (packet.ConnectionRequest a b) = record { set = refl; ask = omega arith }
+    pending_over j start datagram out packet.ConnectionDenied = record { set = refl; ask = omega arith }
+    pending_over j start datagram out (packet.Challenge a) = record { set = refl; ask = omega arith }
+    pending_over j start datagram out (packet.Response a) = record { set = refl; ask = omega arith }
+    pending_over j start datagram out (packet.KeepAlive a b) = record { set = refl; ask = omega arith }
+    pending_over j start datagram out packet.Payload = record { set = refl; ask = omega arith }
+    pending_over j start datagram out packet.Disconnect = record { set = refl; ask = omega arith }
 
-    pending-body-over : (u : List ℕ) (m j start datagram out : ℕ) (b : Body) → Turns t (pending_body t.server u m j start datagram out b).turn.server
+    pending_body_over : (u : List ℕ) (m j start datagram out : ℕ) (b : Body) → Turns t (pending_body t.server u m j start datagram out b).turn.server
     unfolding pending_body with_ask
-    pending-body-over u m j start datagram out (Whole p) = pending-over j start datagram out p
-    pending-body-over u m j start datagram out Short = record { set = refl; ask = omega arith }
+    pending_body_over u m j start datagram out (Whole p) = pending_over j start datagram out p
+    pending_body_over u m j start datagram out Short = record { set = refl; ask = omega arith }
 
-    packet-spares : (connected : Bool) (place : ℕ) (kind : PacketType) (sequence start : ℕ) (out d : List ℕ) → PacketSpares k connected place
+    packet_spares : (connected : Bool) (place : ℕ) (kind : PacketType) (sequence start : ℕ) (out d : List ℕ) → PacketSpares k connected place
         → misplaced place (room_of connected t.server.set.slots t.server.set.pending) (length d) start 16 ≡ false
         → S (packet_opened t connected place kind sequence start (length out) d).state
     unfolding packet_opened pick room_of slot_heard pending_heard
-    packet-spares true place kind sequence start out d away fit =
-        heard-spares place away (place_below place t.server.set.slots (length d) start 16 fit) kind sequence start d _ (body-over _ _ place start _ (body_in kind start d))
-    packet-spares false place kind sequence start out d away fit =
-        turned t spared _ _ (pending-body-over _ _ place start (length d) (length out) (body_in kind start d))
+    packet_spares true place kind sequence start out d away fit =
+        heard_spares place away (place_below place t.server.set.slots (length d) start 16 fit) kind sequence start d _ (body_over _ _ place start _ (body_in kind start d))
+    packet_spares false place kind sequence start out d away fit =
+        turned t spared _ _ (pending_body_over _ _ place start (length d) (length out) (body_in kind start d))
 
     -- a challenge: the slot that is to take the record is free, so it is not slot k
-    denied-spares : (datagram : ℕ) (out key : List ℕ) (a : Address) → Turns t (denied t.server datagram out key a).turn.server
+    denied_spares : (datagram : ℕ) (out key : List ℕ) (a : Address) → Turns t (denied t.server datagram out key a).turn.server
     unfolding denied with_ask
-    denied-spares datagram out key a =
+    denied_spares datagram out key a =
         pick_all (λ (x : Spoken). Turns t x.turn.server) _ (λ _. record { set = refl; ask = omega arith }) (λ _. record { set = refl; ask = omega arith })
 
     free_other : (i : ℕ) → find_free t.slots t.server.set.slots ≡ At i → i ≡ k → ⊥
     free_other i e x =
         let f = (free_found t.slots t.server.set.slots i).0 e in
-        true_false (ap (used_at t.slots) x ∙ still-used t.slots spared.kept) (empty_unused t.slots i f.here)
+        true_false (ap (used_at t.slots) x ∙ still_used t.slots spared.kept) (empty_unused t.slots i f.here)
 
-    connecting-spares : (datagram : ℕ) (held out : List ℕ) (j i : ℕ) → (i ≡ k → ⊥) → (key : List ℕ) (sequence : ℕ) (token : ChallengeToken)
+    connecting_spares : (datagram : ℕ) (held out : List ℕ) (j i : ℕ) → (i ≡ k → ⊥) → (key : List ℕ) (sequence : ℕ) (token : ChallengeToken)
         → Turns t (connecting t.server datagram held out j i key sequence token).turn.server
     unfolding connecting with_ask
-    connecting-spares datagram held out j i away key sequence token =
+    connecting_spares datagram held out j i away key sequence token =
         pick_all (λ (x : Prepared). Turns t x.turn.server) _ (λ _. record { set = refl; ask = omega arith }) (λ _. record { set = refl; ask = away })
 
-    free-spares : (datagram : ℕ) (p held out : List ℕ) (j : ℕ) (token : ChallengeToken) (x : Found) → find_free t.slots t.server.set.slots ≡ x
+    free_spares : (datagram : ℕ) (p held out : List ℕ) (j : ℕ) (token : ChallengeToken) (x : Found) → find_free t.slots t.server.set.slots ≡ x
         → Turns t (by_free t.server datagram p held out j token x).turn.server
     unfolding by_free
-    free-spares datagram p held out j token (At i) e = connecting-spares datagram held out j i (free_other i e) _ _ token
-    free-spares datagram p held out j token Nothing e = denied-spares datagram out _ _
+    free_spares datagram p held out j token (At i) e = connecting_spares datagram held out j i (free_other i e) _ _ token
+    free_spares datagram p held out j token Nothing e = denied_spares datagram out _ _
 
-    id-spares : (datagram : ℕ) (p held out : List ℕ) (j : ℕ) (token : ChallengeToken) (x : Found) → Turns t (by_id t.server datagram t.slots p held out j token x).turn.server
+    id_spares : (datagram : ℕ) (p held out : List ℕ) (j : ℕ) (token : ChallengeToken) (x : Found) → Turns t (by_id t.server datagram t.slots p held out j token x).turn.server
     unfolding by_id with_ask
-    id-spares datagram p held out j token (At q) = record { set = refl; ask = omega arith }
-    id-spares datagram p held out j token Nothing = free-spares datagram p held out j token (find_free t.slots t.server.set.slots) refl
+    id_spares datagram p held out j token (At q) = record { set = refl; ask = omega arith }
+    id_spares datagram p held out j token Nothing = free_spares datagram p held out j token (find_free t.slots t.server.set.slots) refl
 
-    opened-spares : (held out d : List ℕ) (x : Stage) → AskSpares k x → misfits x t.server.set.slots t.server.set.pending (length d) (length out) ≡ false
+    opened_spares : (held out d : List ℕ) (x : Stage) → AskSpares k x → misfits x t.server.set.slots t.server.set.pending (length d) (length out) ≡ false
         → S (opened t held out d x).outcome.state
     unfolding opened misfits responded
-    opened-spares held out d stage.Idle a fit = spared
-    opened-spares held out d (stage.Packet connected place kind sequence start) a fit = packet-spares connected place kind sequence start out d a fit
-    opened-spares held out d (stage.Token b c e f) a fit = spared
-    opened-spares held out d (stage.Challenge j start) a fit = turned t spared _ _ (id-spares (length d) _ held out j (token_at d start) (find_id t.slots t.server.set.slots (token_at d start).client_id))
-    opened-spares held out d (stage.Seal b c e) a fit = spared
+    opened_spares held out d stage.Idle a fit = spared
+    opened_spares held out d (stage.Packet connected place kind sequence start) a fit = packet_spares connected place kind sequence start out d a fit
+    opened_spares held out d (stage.Token b c e f) a fit = spared
+    opened_spares held out d (stage.Challenge j start) a fit = turned t spared _ _ (id_spares (length d) _ held out j (token_at d start) (find_id t.slots t.server.set.slots (token_at d start).client_id))
+    opened_spares held out d (stage.Seal b c e) a fit = spared
 
     -- a private token: no slot is written at all
-    challenged-spares : (datagram : ℕ) (addr : Address) (expiry : ℕ) (p : PrivateConnectToken) (held out : List ℕ) → Turns t (challenged t.server datagram addr expiry p held out).turn.server
+    challenged_spares : (datagram : ℕ) (addr : Address) (expiry : ℕ) (p : PrivateConnectToken) (held out : List ℕ) → Turns t (challenged t.server datagram addr expiry p held out).turn.server
     unfolding challenged challenge_sent with_ask with_counters
-    challenged-spares datagram addr expiry p held out =
+    challenged_spares datagram addr expiry p held out =
         pick_all (λ (x : Prepared). Turns t x.turn.server) _
         (λ _. record { set = refl; ask = omega arith })
         (λ _. pick_all (λ (x : Prepared). Turns t x.turn.server) _ (λ _. record { set = refl; ask = omega arith }) (λ _. record { set = refl; ask = omega arith }))
 
-    considered-spares : (datagram : ℕ) (addr : Address) (expiry low high : ℕ) (p : PrivateConnectToken) (entries held out : List ℕ)
+    considered_spares : (datagram : ℕ) (addr : Address) (expiry low high : ℕ) (p : PrivateConnectToken) (entries held out : List ℕ)
         → Turns t (considered t.server datagram addr expiry low high p t.slots t.pending entries held out).met.turn.server
     unfolding considered by_entry welcomed with_ask
-    considered-spares datagram addr expiry low high p entries held out =
+    considered_spares datagram addr expiry low high p entries held out =
         pick_all (λ (x : Admitted). Turns t x.met.turn.server) _
         (λ _. record { set = refl; ask = omega arith })
         (λ _. pick_all (λ (x : Admitted). Turns t x.met.turn.server) _
-        (λ _. pick_all (λ (x : Met). Turns t x.turn.server) _ (λ _. denied-spares datagram out _ addr) (λ _. challenged-spares datagram addr expiry p held out))
+        (λ _. pick_all (λ (x : Met). Turns t x.turn.server) _ (λ _. denied_spares datagram out _ addr) (λ _. challenged_spares datagram addr expiry p held out))
         (λ _. record { set = refl; ask = omega arith }))
 
-    granted-spares : (p : PrivateConnectToken) (list entries public held out : List ℕ) (datagram : ℕ) (x : Stage) → S (granted_at t p list entries public held out datagram x).outcome.state
+    granted_spares : (p : PrivateConnectToken) (list entries public held out : List ℕ) (datagram : ℕ) (x : Stage) → S (granted_at t p list entries public held out datagram x).outcome.state
     unfolding granted_at with_ask
-    granted-spares p list entries public held out datagram stage.Idle = spared
-    granted-spares p list entries public held out datagram (stage.Packet a b c e f) = spared
-    granted-spares p list entries public held out datagram (stage.Token addr expiry low high) =
+    granted_spares p list entries public held out datagram stage.Idle = spared
+    granted_spares p list entries public held out datagram (stage.Packet a b c e f) = spared
+    granted_spares p list entries public held out datagram (stage.Token addr expiry low high) =
         pick_all (λ (x : Granted). S x.outcome.state) _
         (λ _. turned t spared _ t.pending (record { set = refl; ask = omega arith }))
-        (λ _. turned t spared _ _ (considered-spares datagram addr expiry low high p entries held out))
-    granted-spares p list entries public held out datagram (stage.Challenge a b) = spared
-    granted-spares p list entries public held out datagram (stage.Seal a b c) = spared
+        (λ _. turned t spared _ _ (considered_spares datagram addr expiry low high p entries held out))
+    granted_spares p list entries public held out datagram (stage.Challenge a b) = spared
+    granted_spares p list entries public held out datagram (stage.Seal a b c) = spared
 
     -- a seal
-    goal-spares : (held : List ℕ) (out sequence end : ℕ) (g : Goal) → GoalSpares k g → goal_misfits g t.server.set.slots t.server.set.pending ≡ false
+    goal_spares : (held : List ℕ) (out sequence end : ℕ) (g : Goal) → GoalSpares k g → goal_misfits g t.server.set.slots t.server.set.pending ≡ false
         → S (sealed t held out sequence end g).state
     unfolding sealed packet_asked connects sends with_ask with_counters goal_misfits
-    goal-spares held out sequence end (goal.Denied a) away fit = turned t spared _ t.pending (record { set = refl; ask = omega arith })
-    goal-spares held out sequence end (goal.ChallengeToken a) away fit = turned t spared _ t.pending (record { set = refl; ask = omega arith })
-    goal-spares held out sequence end (goal.ChallengePacket a) away fit = turned t spared _ _ (record { set = refl; ask = omega arith })
-    goal-spares held out sequence end (goal.Connecting j i) away fit =
+    goal_spares held out sequence end (goal.Denied a) away fit = turned t spared _ t.pending (record { set = refl; ask = omega arith })
+    goal_spares held out sequence end (goal.ChallengeToken a) away fit = turned t spared _ t.pending (record { set = refl; ask = omega arith })
+    goal_spares held out sequence end (goal.ChallengePacket a) away fit = turned t spared _ _ (record { set = refl; ask = omega arith })
+    goal_spares held out sequence end (goal.Connecting j i) away fit =
         let b = both_false (leb t.server.set.pending j) (leb t.server.set.slots i) fit in
         let m = t.server.set.slots in
         record {
@@ -353,7 +353,7 @@ module _ (base : List ℕ) (n k : ℕ) (inside : k < n) (used : used_at base k �
               away spared.kept;
           ask = omega arith;
         }
-    goal-spares held out sequence end (goal.Sending i) away fit =
+    goal_spares held out sequence end (goal.Sending i) away fit =
         let m = t.server.set.slots in
         record {
           places = spared.places;
@@ -361,33 +361,33 @@ module _ (base : List ℕ) (n k : ℕ) (inside : k < n) (used : used_at base k �
               (elsewhere_sent t.slots m i slots (leb-false m i fit) sequence t.server.current_time) away spared.kept;
           ask = omega arith;
         }
-    goal-spares held out sequence end (goal.Ending id a) away fit = turned t spared _ t.pending (record { set = refl; ask = omega arith })
+    goal_spares held out sequence end (goal.Ending id a) away fit = turned t spared _ t.pending (record { set = refl; ask = omega arith })
 
-    ungoal-spares : (g : Goal) → Turns t (unsealed t.server g).server
+    ungoal_spares : (g : Goal) → Turns t (unsealed t.server g).server
     unfolding unsealed with_ask
-    ungoal-spares (goal.Denied a) = record { set = refl; ask = omega arith }
-    ungoal-spares (goal.ChallengeToken a) = record { set = refl; ask = omega arith }
-    ungoal-spares (goal.ChallengePacket a) = record { set = refl; ask = omega arith }
-    ungoal-spares (goal.Connecting j i) = record { set = refl; ask = omega arith }
-    ungoal-spares (goal.Sending i) = record { set = refl; ask = omega arith }
-    ungoal-spares (goal.Ending id a) = record { set = refl; ask = omega arith }
+    ungoal_spares (goal.Denied a) = record { set = refl; ask = omega arith }
+    ungoal_spares (goal.ChallengeToken a) = record { set = refl; ask = omega arith }
+    ungoal_spares (goal.ChallengePacket a) = record { set = refl; ask = omega arith }
+    ungoal_spares (goal.Connecting j i) = record { set = refl; ask = omega arith }
+    ungoal_spares (goal.Sending i) = record { set = refl; ask = omega arith }
+    ungoal_spares (goal.Ending id a) = record { set = refl; ask = omega arith }
 
-    stage-spares : (granted : Bool) (held : List ℕ) (out : ℕ) (x : Stage) → AskSpares k x
+    stage_spares : (granted : Bool) (held : List ℕ) (out : ℕ) (x : Stage) → AskSpares k x
         → misfits x t.server.set.slots t.server.set.pending t.server.ask.datagram out ≡ false → S (by_stage t granted held out x).state
     unfolding by_stage misfits seal_misfits pick
-    stage-spares granted held out stage.Idle a fit = spared
-    stage-spares granted held out (stage.Packet b c d e f) a fit = spared
-    stage-spares granted held out (stage.Token b c d e) a fit = spared
-    stage-spares granted held out (stage.Challenge b c) a fit = spared
-    stage-spares true held out (stage.Seal g sequence end) a fit =
-        goal-spares held out sequence end g a (both_false (goal_misfits g t.server.set.slots t.server.set.pending) _ fit).0
-    stage-spares false held out (stage.Seal g sequence end) a fit = turned t spared _ t.pending (ungoal-spares g)
+    stage_spares granted held out stage.Idle a fit = spared
+    stage_spares granted held out (stage.Packet b c d e f) a fit = spared
+    stage_spares granted held out (stage.Token b c d e) a fit = spared
+    stage_spares granted held out (stage.Challenge b c) a fit = spared
+    stage_spares true held out (stage.Seal g sequence end) a fit =
+        goal_spares held out sequence end g a (both_false (goal_misfits g t.server.set.slots t.server.set.pending) _ fit).0
+    stage_spares false held out (stage.Seal g sequence end) a fit = turned t spared _ t.pending (ungoal_spares g)
 
   -- ---- any answer
 
-  replied-spares : (t : State) → S t → (r : Reply) → S (replied t r)
+  replied_spares : (t : State) → S t → (r : Reply) → S (replied t r)
   unfolding replied opens grants seals grant_refusal open_refusal with_ask
-  replied-spares t spared (Opens granted held out d) =
+  replied_spares t spared (Opens granted held out d) =
       let both = both_refusal t.server.set (length t.slots) (length t.pending) in
       pick_all (λ (w : Written). S w.outcome.state) _
       (λ e.
@@ -395,10 +395,10 @@ module _ (base : List ℕ) (n k : ℕ) (inside : k < n) (used : used_at base k �
       let a = answer_fits t.server.ask both 1 t.server.set (length d) (length out) f.0 in
       let s = both_shaped t.server.set t.slots t.pending a.tabled in
       pick_all (λ (w : Written). S w.outcome.state) granted
-      (λ _. opened-spares t spared s.0 s.1 held out d t.server.ask.stage spared.ask a.fitting)
+      (λ _. opened_spares t spared s.0 s.1 held out d t.server.ask.stage spared.ask a.fitting)
       (λ _. turned t spared _ t.pending (record { set = refl; ask = omega arith })))
       (λ _. spared)
-  replied-spares t spared (Grants given p list entries public held out datagram) =
+  replied_spares t spared (Grants given p list entries public held out datagram) =
       let all = all_refusal t.server.set (length t.slots) (length t.pending) (length entries) (length public) in
       pick_all (λ (w : Granted). S w.outcome.state) _
       (λ e.
@@ -407,16 +407,16 @@ module _ (base : List ℕ) (n k : ℕ) (inside : k < n) (used : used_at base k �
       let a = answer_fits t.server.ask all 2 t.server.set datagram (length out) g.0 in
       let s = all_shaped t.server.set t.slots t.pending entries public a.tabled in
       pick_all (λ (w : Granted). S w.outcome.state) given
-      (λ _. granted-spares t spared s.0 s.1 p list entries public held out datagram t.server.ask.stage)
+      (λ _. granted_spares t spared s.0 s.1 p list entries public held out datagram t.server.ask.stage)
       (λ _. turned t spared _ t.pending (record { set = refl; ask = omega arith })))
       (λ _. spared)
-  replied-spares t spared (Seals granted held out) =
+  replied_spares t spared (Seals granted held out) =
       let both = both_refusal t.server.set (length t.slots) (length t.pending) in
       pick_all (λ (w : Outcome). S w.state) _
       (λ e.
       let a = answer_fits t.server.ask both 3 t.server.set t.server.ask.datagram out (eqb-true (seal_refusal t out) 0 e) in
       let s = both_shaped t.server.set t.slots t.pending a.tabled in
-      stage-spares t spared s.0 s.1 granted held out t.server.ask.stage spared.ask a.fitting)
+      stage_spares t spared s.0 s.1 granted held out t.server.ask.stage spared.ask a.fitting)
       (λ _. spared)
 
   -- ---- a call for another client
@@ -424,32 +424,32 @@ module _ (base : List ℕ) (n k : ℕ) (inside : k < n) (used : used_at base k �
   module _ (t : State) (spared : S t) (id : ℕ) (other : find_id t.slots t.server.set.slots id ≡ At k → ⊥) where
     module _ (i : ℕ) (f : Finds t.server t.slots id i) where
       -- the slot that the id finds is another
-      other-found : i ≡ k → ⊥
-      other-found x = other (f.found ∙ ap At x)
+      other_found : i ≡ k → ⊥
+      other_found x = other (f.found ∙ ap At x)
 
-      ended-spares : (s : NetcodeServer) → Turns t s → S (state s (emptied t.slots i) t.pending)
-      ended-spares s r =
+      ended_spares : (s : NetcodeServer) → Turns t s → S (state s (emptied t.slots i) t.pending)
+      ended_spares s r =
           let m = t.server.set.slots in
           let b = finds_below t.server t.slots id i f in
           record {
             places = ap (λ (x : _). x.slots) r.set ∙ spared.places;
-            kept = kept_on t.slots (emptied t.slots i) m i spared.places (emptied_elsewhere t.slots m i b.0 b.1) other-found spared.kept;
+            kept = kept_on t.slots (emptied t.slots i) m i spared.places (emptied_elsewhere t.slots m i b.0 b.1) other_found spared.kept;
             ask = r.ask;
           }
 
-    leaves-spares : (s : NetcodeServer) (l : List ℕ) → Leaves t.server t.slots id s l → S (state s l t.pending)
+    leaves_spares : (s : NetcodeServer) (l : List ℕ) → Leaves t.server t.slots id s l → S (state s l t.pending)
     unfolding with_ask
-    leaves-spares s l same = spared
-    leaves-spares s l (asks i f sequence end out) = turned t spared _ t.pending (record { set = refl; ask = other-found i f })
-    leaves-spares s l (ends i f) = ended-spares i f t.server (record { set = refl; ask = spared.ask })
-    leaves-spares s l (ends_asking i f addr sequence end out) = ended-spares i f _ (record { set = refl; ask = omega arith })
+    leaves_spares s l same = spared
+    leaves_spares s l (asks i f sequence end out) = turned t spared _ t.pending (record { set = refl; ask = other_found i f })
+    leaves_spares s l (ends i f) = ended_spares i f t.server (record { set = refl; ask = spared.ask })
+    leaves_spares s l (ends_asking i f addr sequence end out) = ended_spares i f _ (record { set = refl; ask = omega arith })
 
   -- ---- any answers
 
-  answered-spares : (t : State) → S t → (rs : List Reply) → S (answered t rs)
+  answered_spares : (t : State) → S t → (rs : List Reply) → S (answered t rs)
   unfolding answered
-  answered-spares t spared [] = spared
-  answered-spares t spared (r ∷ rs) = replied-spares (answered t rs) (answered-spares t spared rs) r
+  answered_spares t spared [] = spared
+  answered_spares t spared (r ∷ rs) = replied_spares (answered t rs) (answered_spares t spared rs) r
 
 -- while no ask is open, a state spares each of its slots
 idle_spares : (t : State) → t.server.ask.stage ≡ stage.Idle → (k : ℕ) → Spares t.slots t.server.set.slots k t
@@ -463,8 +463,8 @@ pub other_address_kept : (t : State) → t.server.ask.stage ≡ stage.Idle → (
     → Kept t.slots (answered (arrives t addr out d).state rs).slots t.server.set.slots k
 other_address_kept t idle addr out d rs k inside used far =
     let n = t.server.set.slots in
-    let start = arrives-spares t.slots n k inside used t (idle_spares t idle k) idle addr far out d in
-    (answered-spares t.slots n k inside used (arrives t addr out d).state start rs).kept
+    let start = arrives_spares t.slots n k inside used t (idle_spares t idle k) idle addr far out d in
+    (answered_spares t.slots n k inside used (arrives t addr out d).state start rs).kept
 
 -- NO CALL FOR A CLIENT ALTERS A SLOT OF ANOTHER: any tables, any call for a client, any list of answers, any buffers. Slot k is used and is not the
 -- one that the client's id finds; no ask is open. Then every word of the slot is as it was.
@@ -473,8 +473,8 @@ pub other_client_kept : (t : State) → t.server.ask.stage ≡ stage.Idle → (v
     → Kept t.slots (answered (served t v) rs).slots t.server.set.slots k
 other_client_kept t idle v rs k inside used other =
     let n = t.server.set.slots in
-    let start = leaves-spares t.slots n k inside used t (idle_spares t idle k) (client_of v) other _ _ (service_leaves t.server t.slots v) in
-    (answered-spares t.slots n k inside used (served t v) start rs).kept
+    let start = leaves_spares t.slots n k inside used t (idle_spares t idle k) (client_of v) other _ _ (service_leaves t.server t.slots v) in
+    (answered_spares t.slots n k inside used (served t v) start rs).kept
 
 -- while an ask is open, a datagram changes nothing at all
 pub open_unchanged : (t : State) → (t.server.ask.stage ≡ stage.Idle → ⊥) → (addr : Address) (out : ℕ) (d : List ℕ) → arrives t addr out d ≡ refuses t 16

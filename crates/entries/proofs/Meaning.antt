@@ -55,21 +55,21 @@ module _ (t : List ℕ) (k : ℕ) (e : ConnectTokenEntry) where
 -- ---- no match: the place that is written
 
 module _ (t : List ℕ) (k : ℕ) where
-  first-empty : (i : ℕ) → i < k → used_at t i ≡ false → ((m : ℕ) → m < i → used_at t m ≡ true) → i ≡ place_for t k
-  first-empty i h p q =
+  first_empty : (i : ℕ) → i < k → used_at t i ≡ false → ((m : ℕ) → m < i → used_at t m ≡ true) → i ≡ place_for t k
+  first_empty i h p q =
       let found : find_empty t k ≡ At i =
       lowest_found (empty_at t) 0 k i (record { from = omega arith; below = omega arith; holds = ap not p; none = λ m a b. ap not (q m b) }) in
       (place_empty t k found).0
 
-  none-empty : Full t k → find_empty t k ≡ Nothing
-  none-empty full = none_found (empty_at t) 0 k (λ m a b. ap not (full m (omega arith)))
+  none_empty : Full t k → find_empty t k ≡ Nothing
+  none_empty full = none_found (empty_at t) 0 k (λ m a b. ap not (full m (omega arith)))
 
-  first-lowest : Full t k → (j : ℕ) → j < k → ((m : ℕ) → m < k → nanos_at t k j ≤ nanos_at t k m) → ((m : ℕ) → m < j → nanos_at t k j < nanos_at t k m)
+  first_lowest : Full t k → (j : ℕ) → j < k → ((m : ℕ) → m < k → nanos_at t k j ≤ nanos_at t k m) → ((m : ℕ) → m < j → nanos_at t k j < nanos_at t k m)
       → j ≡ place_for t k
-  first-lowest full j h lowest first =
+  first_lowest full j h lowest first =
       let only : j ≡ oldest t k =
       one_first (nanos_at t k) k j (oldest t k) (record { below = h; lowest = lowest; first = first }) (oldest_lowest t k k (omega arith)) in
-      place_oldest t k (none-empty full) only
+      place_oldest t k (none_empty full) only
 
   -- some place is written in any case
   pub place_inside : 0 < k → place_for t k < k
@@ -84,11 +84,11 @@ module _ (t : List ℕ) (k : ℕ) (e : ConnectTokenEntry) (none : NoMatch t k e)
 
   pub first_empty_written : (i : ℕ) → i < k → used_at t i ≡ false → ((m : ℕ) → m < i → used_at t m ≡ true)
       → add_entry t k e ≡ done true (written t k i e)
-  first_empty_written i h p q = written_at i (first-empty t k i h p q)
+  first_empty_written i h p q = written_at i (first_empty t k i h p q)
 
   pub full_first_lowest : Full t k → (j : ℕ) → j < k → ((m : ℕ) → m < k → nanos_at t k j ≤ nanos_at t k m)
       → ((m : ℕ) → m < j → nanos_at t k j < nanos_at t k m) → add_entry t k e ≡ done true (written t k j e)
-  full_first_lowest full j h lowest first = written_at j (first-lowest t k full j h lowest first)
+  full_first_lowest full j h lowest first = written_at j (first_lowest t k full j h lowest first)
 
   -- there is such a place
   pub full_oldest_written : Shaped t k → Full t k → add_entry t k e ≡ done true (written t k (oldest t k) e)
@@ -138,16 +138,16 @@ added_shaped t k e s n =
 
 -- after set-up no place is used, so no token has an entry
 module _ (t : List ℕ) (k : ℕ) (s : Shaped t k) where
-  zeros-inside : 0 + length (zeros k) ≤ length t
-  zeros-inside = omega (arith, length-replicate {A = ℕ} k 0, s.long)
+  zeros_inside : 0 + length (zeros k) ≤ length t
+  zeros_inside = omega (arith, length-replicate {A = ℕ} k 0, s.long)
 
   pub emptied_shaped : Shaped (splice t 0 (zeros k)) k
-  emptied_shaped = record { some = s.some; few = s.few; long = length_splice t 0 (zeros k) zeros-inside ∙ s.long }
+  emptied_shaped = record { some = s.some; few = s.few; long = length_splice t 0 (zeros k) zeros_inside ∙ s.long }
 
   pub emptied_marks : (i : ℕ) → i < k → get_or (splice t 0 (zeros k)) i 0 ≡ 0
   emptied_marks i h =
       ap (λ (j : ℕ). get_or (splice t 0 (zeros k)) j 0) (sym (zero-add i))
-      ∙ get_or_splice_in t 0 (zeros k) i zeros-inside (omega (arith, length-replicate {A = ℕ} k 0))
+      ∙ get_or_splice_in t 0 (zeros k) i zeros_inside (omega (arith, length-replicate {A = ℕ} k 0))
       ∙ get_or-replicate k i 0 0 h
 
   pub emptied_no_match : (e : ConnectTokenEntry) → NoMatch (splice t 0 (zeros k)) k e

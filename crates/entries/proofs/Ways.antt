@@ -98,13 +98,13 @@ module _ (t : List ℕ) (k : ℕ) where
 
 module _ (t : List ℕ) (k : ℕ) (e : ConnectTokenEntry) where
   -- the answer, and the entries left, as the search for a match answers
-  byMatch : Found → Outcome
-  byMatch f = by_found f (λ (i : ℕ). done (same (address_at t k i) e.address) t) (done true (written t k (place_for t k) e))
+  by_match : Found → Outcome
+  by_match f = by_found f (λ (i : ℕ). done (same (address_at t k i) e.address) t) (done true (written t k (place_for t k) e))
 
   pub entry_matched : {i : ℕ} {r : Bool} → find_match t k e.mac ≡ At i → r ≡ same (address_at t k i) e.address → done r t ≡ add_entry t k e
-  unfolding add_entry by_found byMatch
-  entry_matched p q = ap (λ (b : Bool). done b t) q ∙ ap byMatch (sym p)
+  unfolding add_entry by_found by_match
+  entry_matched p q = ap (λ (b : Bool). done b t) q ∙ ap by_match (sym p)
 
   pub entry_added : {i : ℕ} {u : List ℕ} → find_match t k e.mac ≡ Nothing → i ≡ place_for t k → u ≡ written t k i e → done true u ≡ add_entry t k e
-  unfolding add_entry by_found byMatch
-  entry_added p q r = ap (done true) (r ∙ ap (λ (j : ℕ). written t k j e) q) ∙ ap byMatch (sym p)
+  unfolding add_entry by_found by_match
+  entry_added p q r = ap (done true) (r ∙ ap (λ (j : ℕ). written t k j e) q) ∙ ap by_match (sym p)

@@ -31,13 +31,13 @@ module _ (t : List ℕ) (k i : ℕ) (e : ConnectTokenEntry) (s : Shaped t k) (h 
   inside : body_at k i + length (body_of e) ≤ length (set t i 0)
   inside = omega (arith, body_inside s h, length_body e n, length-set t i 0)
 
-  half-long : length half ≡ length t
+  half_long : length half ≡ length t
   unfolding half
-  half-long = length_splice (set t i 0) (body_at k i) (body_of e) inside ∙ length-set t i 0
+  half_long = length_splice (set t i 0) (body_at k i) (body_of e) inside ∙ length-set t i 0
 
   pub written_length : length (written t k i e) ≡ length t
   unfolding written half
-  written_length = length-set half i 1 ∙ half-long
+  written_length = length-set half i 1 ∙ half_long
 
   pub written_shaped : Shaped (written t k i e) k
   written_shaped = record { some = s.some; few = s.few; long = written_length ∙ s.long }
@@ -45,23 +45,23 @@ module _ (t : List ℕ) (k i : ℕ) (e : ConnectTokenEntry) (s : Shaped t k) (h 
   pub written_body : part (written t k i e) (body_at k i) 47 ≡ body_of e
   unfolding written half
   written_body =
-      part_set_other half i 1 (body_at k i) 47 (omega (arith, half-long, body_inside s h)) (λ o l q. omega arith)
+      part_set_other half i 1 (body_at k i) 47 (omega (arith, half_long, body_inside s h)) (λ o l q. omega arith)
       ∙ ap (part half (body_at k i)) (sym (length_body e n))
       ∙ part_splice_same (set t i 0) (body_at k i) (body_of e) inside
 
   -- another place's mark, and its body
-  other-mark : (j : ℕ) → j < k → (j ≡ i → ⊥) → get_or (written t k i e) j 0 ≡ get_or t j 0
+  other_mark : (j : ℕ) → j < k → (j ≡ i → ⊥) → get_or (written t k i e) j 0 ≡ get_or t j 0
   unfolding written half
-  other-mark j l d =
+  other_mark j l d =
       get_or-set_other half i j 1 0 d
       ∙ get_or_splice_other (set t i 0) (body_at k i) (body_of e) j inside (λ q m p. omega arith)
       ∙ get_or-set_other t i j 0 0 d
 
-  other-body : (j : ℕ) → j < k → (j ≡ i → ⊥) → part (written t k i e) (body_at k j) 47 ≡ part t (body_at k j) 47
+  other_body : (j : ℕ) → j < k → (j ≡ i → ⊥) → part (written t k i e) (body_at k j) 47 ≡ part t (body_at k j) 47
   unfolding written half
-  other-body j l d =
+  other_body j l d =
       let in-t : body_at k j + 47 ≤ length t = body_inside s l in
-      part_set_other half i 1 (body_at k j) 47 (omega (arith, half-long)) (λ o m p. omega arith)
+      part_set_other half i 1 (body_at k j) 47 (omega (arith, half_long)) (λ o m p. omega arith)
       ∙ part_splice_other (set t i 0) (body_at k i) (body_of e) (body_at k j) 47 inside (omega (arith, length-set t i 0))
       (λ o q m p f. omega (arith, length_body e n))
       ∙ part_set_other t i 0 (body_at k j) 47 in-t (λ o m p. omega arith)
@@ -69,12 +69,12 @@ module _ (t : List ℕ) (k i : ℕ) (e : ConnectTokenEntry) (s : Shaped t k) (h 
   -- the mark of place i is 1, and the others are as before
   pub written_marks : (get_or (written t k i e) i 0 ≡ 1) × ((j : ℕ) → j < k → (j ≡ i → ⊥) → get_or (written t k i e) j 0 ≡ get_or t j 0)
   unfolding written half
-  written_marks = (get_or-set_same half i 1 0 (omega (arith, half-long, s.long)), other-mark)
+  written_marks = (get_or-set_same half i 1 0 (omega (arith, half_long, s.long)), other_mark)
 
   -- mark and body of another place are as before
   pub written_elsewhere : (j : ℕ) → j < k → (j ≡ i → ⊥)
       → (get_or (written t k i e) j 0 ≡ get_or t j 0) × (part (written t k i e) (body_at k j) 47 ≡ part t (body_at k j) 47)
-  written_elsewhere j l d = (other-mark j l d, other-body j l d)
+  written_elsewhere j l d = (other_mark j l d, other_body j l d)
 
 -- ---- runs one after the other, and a part of a known part
 
@@ -83,21 +83,21 @@ last_run xs ys a n p q =
     ap (λ (j : ℕ). part (xs ++ ys) j n) (sym (add-zero (length xs) ∙ p)) ∙ part_right xs ys 0 n ∙ part_whole ys n q
 
 module _ (xs ys zs us : List ℕ) (a n : ℕ) where
-  run-1 : length xs ≡ n → part (xs ++ ys ++ zs ++ us) 0 n ≡ xs
-  run-1 p = simp append_assoc (take_at xs (ys ++ (zs ++ us)) n p)
+  run_1 : length xs ≡ n → part (xs ++ ys ++ zs ++ us) 0 n ≡ xs
+  run_1 p = simp append_assoc (take_at xs (ys ++ (zs ++ us)) n p)
 
-  run-2 : length xs ≡ a → length ys ≡ n → part (xs ++ ys ++ zs ++ us) a n ≡ ys
-  run-2 p q =
+  run_2 : length xs ≡ a → length ys ≡ n → part (xs ++ ys ++ zs ++ us) a n ≡ ys
+  run_2 p q =
       part_left (xs ++ ys ++ zs) us a n (simp length-append (omega arith))
       ∙ part_left (xs ++ ys) zs a n (simp length-append (omega arith))
       ∙ last_run xs ys a n p q
 
-  run-3 : length xs + length ys ≡ a → length zs ≡ n → part (xs ++ ys ++ zs ++ us) a n ≡ zs
-  run-3 p q =
+  run_3 : length xs + length ys ≡ a → length zs ≡ n → part (xs ++ ys ++ zs ++ us) a n ≡ zs
+  run_3 p q =
       part_left (xs ++ ys ++ zs) us a n (simp length-append (omega arith)) ∙ last_run (xs ++ ys) zs a n (length-append xs ys ∙ p) q
 
-  run-4 : length xs + length ys + length zs ≡ a → length us ≡ n → part (xs ++ ys ++ zs ++ us) a n ≡ us
-  run-4 p q = last_run (xs ++ ys ++ zs) us a n (simp length-append p) q
+  run_4 : length xs + length ys + length zs ≡ a → length us ≡ n → part (xs ++ ys ++ zs ++ us) a n ≡ us
+  run_4 p q = last_run (xs ++ ys ++ zs) us a n (simp length-append p) q
 
 -- the n elements from index q lie at b in a part that starts at index at
 part_of_known : (w : List ℕ) (at m : ℕ) {l : List ℕ} (q b n : ℕ) → part w at m ≡ l → b + n ≤ m → at + b ≡ q → part w q n ≡ part l b n
@@ -143,67 +143,67 @@ module _ (w : List ℕ) (k i : ℕ) (e : ConnectTokenEntry) (body : part w (body
   field : (q b m : ℕ) → b + m ≤ 47 → body_at k i + b ≡ q → part w q m ≡ part (body_of e) b m
   field q b m h f = part_of_known w (body_at k i) 47 q b m body h f
 
-  read-secs : of_le (part w (body_at k i) 8) ≡ of_le secs
+  read_secs : of_le (part w (body_at k i) 8) ≡ of_le secs
   unfolding body_of
-  read-secs = ap of_le (field (body_at k i) 0 8 (omega arith) (omega arith) ∙ run-1 secs nanos place mac 0 8 (length_to_le 8 e.time.secs))
+  read_secs = ap of_le (field (body_at k i) 0 8 (omega arith) (omega arith) ∙ run_1 secs nanos place mac 0 8 (length_to_le 8 e.time.secs))
 
-  read-nanos : of_le (part w (body_at k i + 8) 4) ≡ of_le nanos
+  read_nanos : of_le (part w (body_at k i + 8) 4) ≡ of_le nanos
   unfolding body_of
-  read-nanos =
+  read_nanos =
       ap of_le
       (field (body_at k i + 8) 8 4 (omega arith) refl
-      ∙ run-2 secs nanos place mac 8 4 (length_to_le 8 e.time.secs) (length_to_le 4 e.time.nanos))
+      ∙ run_2 secs nanos place mac 8 4 (length_to_le 8 e.time.secs) (length_to_le 4 e.time.nanos))
 
-  read-time : TimeFits e.time → time_at w k i ≡ e.time
-  read-time f = ap₂ time (read-secs ∙ of_le_to_le 8 e.time.secs f.secs) (read-nanos ∙ of_le_to_le 4 e.time.nanos f.nanos)
+  read_time : TimeFits e.time → time_at w k i ≡ e.time
+  read_time f = ap₂ time (read_secs ∙ of_le_to_le 8 e.time.secs f.secs) (read_nanos ∙ of_le_to_le 4 e.time.nanos f.nanos)
 
-  read-place : part w (body_at k i + 12) 19 ≡ place
+  read_place : part w (body_at k i + 12) 19 ≡ place
   unfolding body_of
-  read-place =
+  read_place =
       field (body_at k i + 12) 12 19 (omega arith) refl
-      ∙ run-3 secs nanos place mac 12 19 (omega (arith, length_to_le 8 e.time.secs, length_to_le 4 e.time.nanos)) (length_address e.address)
+      ∙ run_3 secs nanos place mac 12 19 (omega (arith, length_to_le 8 e.time.secs, length_to_le 4 e.time.nanos)) (length_address e.address)
 
-  read-mac : mac_at w k i ≡ e.mac
+  read_mac : mac_at w k i ≡ e.mac
   unfolding body_of
-  read-mac =
+  read_mac =
       field (body_at k i + 31) 31 16 (omega arith) refl
-      ∙ run-4 secs nanos place mac 31 16
+      ∙ run_4 secs nanos place mac 31 16
       (omega (arith, length_to_le 8 e.time.secs, length_to_le 4 e.time.nanos, length_address e.address))
       (length_part e.mac 0 16 (omega arith))
       ∙ part_whole e.mac 16 n
 
   in_place : (q b m : ℕ) → b + m ≤ 19 → body_at k i + 12 + b ≡ q → part w q m ≡ part place b m
-  in_place q b m h f = part_of_known w (body_at k i + 12) 19 q b m read-place h f
+  in_place q b m h f = part_of_known w (body_at k i + 12) 19 q b m read_place h f
 
-  read-kind : get_or w (body_at k i + 12) 0 ≡ e.address.kind
-  read-kind =
+  read_kind : get_or w (body_at k i + 12) 0 ≡ e.address.kind
+  read_kind =
       ap (λ (j : ℕ). get_or w j 0) (sym (add-zero (body_at k i + 12)))
       ∙ sym (get_or_part w (body_at k i + 12) 19 0 (omega arith))
-      ∙ ap (λ (l : List ℕ). get_or l 0 0) read-place
+      ∙ ap (λ (l : List ℕ). get_or l 0 0) read_place
 
   read_low : of_le (part w (body_at k i + 13) 8) ≡ of_le low
   read_low =
-      ap of_le (in_place (body_at k i + 13) 1 8 (omega arith) (omega arith) ∙ run-2 kind low high port 1 8 refl (length_to_le 8 e.address.low))
+      ap of_le (in_place (body_at k i + 13) 1 8 (omega arith) (omega arith) ∙ run_2 kind low high port 1 8 refl (length_to_le 8 e.address.low))
 
-  read-high : of_le (part w (body_at k i + 21) 8) ≡ of_le high
-  read-high =
+  read_high : of_le (part w (body_at k i + 21) 8) ≡ of_le high
+  read_high =
       ap of_le
       (in_place (body_at k i + 21) 9 8 (omega arith) (omega arith)
-      ∙ run-3 kind low high port 9 8 (omega (arith, length_to_le 8 e.address.low)) (length_to_le 8 e.address.high))
+      ∙ run_3 kind low high port 9 8 (omega (arith, length_to_le 8 e.address.low)) (length_to_le 8 e.address.high))
 
-  read-port : of_le (part w (body_at k i + 29) 2) ≡ of_le port
-  read-port =
+  read_port : of_le (part w (body_at k i + 29) 2) ≡ of_le port
+  read_port =
       ap of_le
       (in_place (body_at k i + 29) 17 2 (omega arith) (omega arith)
-      ∙ run-4 kind low high port 17 2 (omega (arith, length_to_le 8 e.address.low, length_to_le 8 e.address.high))
+      ∙ run_4 kind low high port 17 2 (omega (arith, length_to_le 8 e.address.low, length_to_le 8 e.address.high))
       (length_to_le 2 e.address.port))
 
-  read-address : AddressFits e.address → address_at w k i ≡ e.address
-  read-address f =
-      address_fields read-kind
-      (read-port ∙ of_le_to_le 2 e.address.port f.port)
+  read_address : AddressFits e.address → address_at w k i ≡ e.address
+  read_address f =
+      address_fields read_kind
+      (read_port ∙ of_le_to_le 2 e.address.port f.port)
       (read_low ∙ of_le_to_le 8 e.address.low f.low)
-      (read-high ∙ of_le_to_le 8 e.address.high f.high)
+      (read_high ∙ of_le_to_le 8 e.address.high f.high)
 
 -- ---- the same, of a table in which the entry was written
 
@@ -212,13 +212,13 @@ module _ (t : List ℕ) (k i : ℕ) (e : ConnectTokenEntry) (s : Shaped t k) (h 
   body = written_body t k i e s h n
 
   pub written_time : TimeFits e.time → time_at (written t k i e) k i ≡ e.time
-  written_time f = read-time (written t k i e) k i e body n f
+  written_time f = read_time (written t k i e) k i e body n f
 
   pub written_address : AddressFits e.address → address_at (written t k i e) k i ≡ e.address
-  written_address f = read-address (written t k i e) k i e body n f
+  written_address f = read_address (written t k i e) k i e body n f
 
   pub written_mac : mac_at (written t k i e) k i ≡ e.mac
-  written_mac = read-mac (written t k i e) k i e body n
+  written_mac = read_mac (written t k i e) k i e body n
 
   -- place i is a match for the entry's own sixteen bytes, and any other is one where it was before
   pub written_matches : match_at (written t k i e) k e.mac i ≡ true

@@ -42,41 +42,41 @@ module _ (out : List ℕ) (global sequence : ℕ) (key : List ℕ) (id : ℕ) (u
   abbrev head : List ℕ
   head = head_bytes 2 global
 
-  head-long : length head ≡ 1 + fewest global
-  head-long = omega (arith, length_to_le (fewest global) global)
+  head_long : length head ≡ 1 + fewest global
+  head_long = omega (arith, length_to_le (fewest global) global)
 
-  start-early : token_start global ≤ 17
-  start-early = let k = fewest_le global small in omega arith
+  start_early : token_start global ≤ 17
+  start_early = let k = fewest_le global small in omega arith
 
   module _ (p n : ℕ) (prefixed : p ≡ prefix_byte 2 (fewest global)) (counted : n ≡ fewest global) (t u : List ℕ)
       (first : t ≡ splice (set out 0 p) 1 (to_le (fewest global) global)) (second : u ≡ splice t (1 + n) (to_le 8 sequence)) where
     headed : t ≡ splice out 0 head
     headed =
-        let k = start-early in
+        let k = start_early in
         first
         ∙ ap (λ (q : ℕ). splice (set out 0 q) 1 (to_le (fewest global) global)) prefixed
         ∙ splice_cons out 0 (prefix_byte 2 (fewest global)) (to_le (fewest global) global) (omega (arith, length_to_le (fewest global) global))
 
     sequenced : u ≡ splice out 0 (head ++ to_le 8 sequence)
     sequenced =
-        let k = start-early in
+        let k = start_early in
         let l = length_to_le 8 sequence in
-        let h = head-long in
+        let h = head_long in
         splice_then out t u 0 head (1 + n) (to_le 8 sequence) headed second (omega arith) (omega arith)
 
     both_long : length (head ++ to_le 8 sequence) ≡ token_start global
-    both_long = simp length-append (omega (arith, length_to_le 8 sequence, head-long))
+    both_long = simp length-append (omega (arith, length_to_le 8 sequence, head_long))
 
     as_long : length u ≡ length out
     as_long =
-        let k = start-early in
+        let k = start_early in
         let b = both_long in
         ap length sequenced ∙ length_splice out 0 (head ++ to_le 8 sequence) (omega arith)
 
-    clear-written : (v : List ℕ) → v ≡ splice u (token_start global) (token_clear (token id user)) → v ≡ challenge_out out global sequence id user
+    clear_written : (v : List ℕ) → v ≡ splice u (token_start global) (token_clear (token id user)) → v ≡ challenge_out out global sequence id user
     unfolding challenge_out
-    clear-written v e =
-        let k = start-early in
+    clear_written v e =
+        let k = start_early in
         let b = both_long in
         let c = length_clear (token id user) whole in
         splice_then out u v 0 (head ++ to_le 8 sequence) (token_start global) (token_clear (token id user)) sequenced e (omega arith) (omega arith)
@@ -92,12 +92,12 @@ module _ (out : List ℕ) (global sequence : ℕ) (key : List ℕ) (id : ℕ) (u
         → sealing a v ≡ sealing (challenge_ask global sequence key) (challenge_out out global sequence id user)
     unfolding generate_challenge pick challenge_ask
     challenge_written r v e a f =
-        let k = start-early in
+        let k = start_early in
         let l = as_long in
         let at : 1 + n + 8 ≡ token_start global = omega arith in
         let fits : token_start global + 300 ≤ length u = omega arith in
         let w : done r v ≡ written = e ∙ ap (λ (i : ℕ). generate_challenge u i (token id user) sequence key) at ∙ simp (le-ltb (length u) (token_start global + 300) fits) in
-        ap₂ sealing (f ∙ ap (λ (d : Done). asked d.encoded.ask) w) (clear-written v (ap (λ (d : Done). d.out) w))
+        ap₂ sealing (f ∙ ap (λ (d : Done). asked d.encoded.ask) w) (clear_written v (ap (λ (d : Done). d.out) w))
 
 -- the token ends early in the output
 pub token_ends : (global sequence : ℕ) (key out : List ℕ) (id : ℕ) (user : List ℕ) → global < 256 ^ 8

@@ -34,13 +34,13 @@ module _ (list : List ℕ) where
   list_uneven n = simp (ne_eqb (length list % 3) 0 n)
 
   module _ (even : length list % 3 ≡ 0) (k : ℕ) (counted : k ≡ addresses.count list) where
-    pub list-long : 32 < k → true ≡ list_unfit list
+    pub list_long : 32 < k → true ≡ list_unfit list
     unfolding list_unfit
-    list-long h = simp (eq-eqb (length list % 3) 0 even, lt-ltb 32 (addresses.count list) (omega arith))
+    list_long h = simp (eq-eqb (length list % 3) 0 even, lt-ltb 32 (addresses.count list) (omega arith))
 
-    pub list-told : k ≤ 32 → (r : ℕ) → r ≡ addresses.listRefusal list → not (eqb r 0) ≡ list_unfit list
+    pub list_told : k ≤ 32 → (r : ℕ) → r ≡ addresses.listRefusal list → not (eqb r 0) ≡ list_unfit list
     unfolding list_unfit
-    list-told h r e =
+    list_told h r e =
         ap (λ (x : ℕ). not (eqb x 0)) e ∙ simp (eq-eqb (length list % 3) 0 even, le-ltb 32 (addresses.count list) (omega arith))
 
 module _ (given : Bool) (list : List ℕ) where
@@ -49,13 +49,13 @@ module _ (given : Bool) (list : List ℕ) where
   fields_none g = simp g
 
   module _ (g : given ≡ true) (u : Bool) (tested : u ≡ list_unfit list) where
-    pub fields-refused : u ≡ true → 18 ≡ fields_refusal given list
+    pub fields_refused : u ≡ true → 18 ≡ fields_refusal given list
     unfolding fields_refusal pick
-    fields-refused e = simp (g, told tested e)
+    fields_refused e = simp (g, told tested e)
 
-    pub fields-pass : u ≡ false → 0 ≡ fields_refusal given list
+    pub fields_pass : u ≡ false → 0 ≡ fields_refusal given list
     unfolding fields_refusal pick
-    fields-pass e = simp (g, told tested e)
+    fields_pass e = simp (g, told tested e)
 
 -- ---- the answer: tables is what the tables' test gave, r what the shared one did
 
@@ -101,13 +101,13 @@ module _ (set : SetUp) (list public : List ℕ) where
   foreign_never e = simp e
 
   module _ (e : set.secure ≡ true) (o : Bool) (tested : o ≡ addresses.anyOurs list public) where
-    pub foreign-not : o ≡ true → false ≡ foreign set list public
+    pub foreign_not : o ≡ true → false ≡ foreign set list public
     unfolding foreign
-    foreign-not h = simp (e, told tested h)
+    foreign_not h = simp (e, told tested h)
 
-    pub foreign-all : o ≡ false → true ≡ foreign set list public
+    pub foreign_all : o ≡ false → true ≡ foreign set list public
     unfolding foreign
-    foreign-all h = simp (e, told tested h)
+    foreign_all h = simp (e, told tested h)
 
 -- ---- searches
 

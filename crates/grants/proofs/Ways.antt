@@ -45,19 +45,19 @@ use_written time addr low high l t u n p q =
 
 module _ (s : NetcodeServer) (datagram : ℕ) (addr : Address) (expiry : ℕ) (p : PrivateConnectToken) (slots pending held out : List ℕ) where
   module _ (k : ℕ) (counted : k ≡ used_count slots s.set.slots) where
-    pub welcome-denied : s.max_clients ≤ k → (pending' : List ℕ) → pending' ≡ dropped pending (find_address pending s.set.pending addr)
+    pub welcome_denied : s.max_clients ≤ k → (pending' : List ℕ) → pending' ≡ dropped pending (find_address pending s.set.pending addr)
         → (r : Turn) (out' : List ℕ) → spoken r out' ≡ denied s datagram out p.server_to_client_key addr
         → met r pending' held out' ≡ welcomed s datagram addr expiry p slots pending held out
     unfolding welcomed pick
-    welcome-denied h pending' e r out' f =
+    welcome_denied h pending' e r out' f =
         let full : s.max_clients ≤ used_count slots s.set.slots = omega arith in
         ap₂ (λ (x : Spoken) (y : List ℕ). met x.turn y held x.out) f e ∙ simp (le-leb s.max_clients (used_count slots s.set.slots) full)
 
-    pub welcome-challenged : k < s.max_clients → (r : Turn) (held' out' : List ℕ)
+    pub welcome_challenged : k < s.max_clients → (r : Turn) (held' out' : List ℕ)
         → prepared r held' out' ≡ challenged s datagram addr expiry p held out
         → met r pending held' out' ≡ welcomed s datagram addr expiry p slots pending held out
     unfolding welcomed pick
-    welcome-challenged h r held' out' e =
+    welcome_challenged h r held' out' e =
         let room : used_count slots s.set.slots < s.max_clients = omega arith in
         ap (λ (x : Prepared). met x.turn pending x.held x.out) e ∙ simp (lt-leb s.max_clients (used_count slots s.set.slots) room)
 
@@ -78,11 +78,11 @@ module _ (s : NetcodeServer) (datagram : ℕ) (addr : Address) (expiry : ℕ) (p
           ap (by_entry s datagram addr expiry p slots pending held out) (added ∙ ap (entry.addEntry entries s.set.entries) used)
           ∙ simp (told tested heeded)
 
-      pub let-in : x ≡ true → (r : Turn) (pending' held' out' : List ℕ)
+      pub let_in : x ≡ true → (r : Turn) (pending' held' out' : List ℕ)
           → met r pending' held' out' ≡ welcomed s datagram addr expiry p slots pending held out
           → admitted (met r pending' held' out') entries' ≡ considered s datagram addr expiry low high p slots pending entries held out
       unfolding by_entry pick
-      let-in h r pending' held' out' f = ap (λ (m : Met). admitted m entries') f ∙ laid ∙ goes_on
+      let_in h r pending' held' out' f = ap (λ (m : Met). admitted m entries') f ∙ laid ∙ goes_on
         where
           laid : admitted (welcomed s datagram addr expiry p slots pending held out) entries'
               ≡ by_entry s datagram addr expiry p slots pending held out (entry.done x entries')
@@ -103,47 +103,47 @@ module _ (s : NetcodeServer) (p : PrivateConnectToken) (list slots pending entri
   abbrev kept : Turn → Granted
   kept r = granted (came r slots pending) entries held out
 
-  abbrev by-stage : Stage → Granted
-  by-stage = granted_at (state s slots pending) p list entries public held out datagram
+  abbrev by_stage_lem : Stage → Granted
+  by_stage_lem = granted_at (state s slots pending) p list entries public held out datagram
 
   module _ (stage : Stage) where
     abbrev goal : Granted
-    goal = by-stage stage
+    goal = by_stage_lem stage
 
-    pub at-idle : stage ≡ Idle → (r : Turn) → r ≡ refused s 17 → kept r ≡ goal
+    pub at_idle : stage ≡ Idle → (r : Turn) → r ≡ refused s 17 → kept r ≡ goal
     unfolding granted_at
-    at-idle e r f = ap kept f ∙ ap by-stage (sym e)
+    at_idle e r f = ap kept f ∙ ap by_stage_lem (sym e)
 
-    pub at-packet : (connected : Bool) (place : ℕ) (kind : PacketType) (sequence start : ℕ) → stage ≡ Packet connected place kind sequence start
+    pub at_packet : (connected : Bool) (place : ℕ) (kind : PacketType) (sequence start : ℕ) → stage ≡ Packet connected place kind sequence start
         → (r : Turn) → r ≡ refused s 18 → kept r ≡ goal
     unfolding granted_at
-    at-packet connected place kind sequence start e r f = ap kept f ∙ ap by-stage (sym e)
+    at_packet connected place kind sequence start e r f = ap kept f ∙ ap by_stage_lem (sym e)
 
-    pub at-challenge : (place start : ℕ) → stage ≡ Challenge place start → (r : Turn) → r ≡ refused s 18 → kept r ≡ goal
+    pub at_challenge : (place start : ℕ) → stage ≡ Challenge place start → (r : Turn) → r ≡ refused s 18 → kept r ≡ goal
     unfolding granted_at
-    at-challenge place start e r f = ap kept f ∙ ap by-stage (sym e)
+    at_challenge place start e r f = ap kept f ∙ ap by_stage_lem (sym e)
 
-    pub at-seal : (wish : Goal) (sequence end : ℕ) → stage ≡ Seal wish sequence end → (r : Turn) → r ≡ refused s 18 → kept r ≡ goal
+    pub at_seal : (wish : Goal) (sequence end : ℕ) → stage ≡ Seal wish sequence end → (r : Turn) → r ≡ refused s 18 → kept r ≡ goal
     unfolding granted_at
-    at-seal wish sequence end e r f = ap kept f ∙ ap by-stage (sym e)
+    at_seal wish sequence end e r f = ap kept f ∙ ap by_stage_lem (sym e)
 
     module _ (addr : Address) (expiry low high : ℕ) (e : stage ≡ Token addr expiry low high)
         (b : Bool) (tested : b ≡ foreign s.set list public) where
-      pub token-foreign : b ≡ true → (r : Turn) → r ≡ closed s (Refused 13) → kept r ≡ goal
+      pub token_foreign : b ≡ true → (r : Turn) → r ≡ closed s (Refused 13) → kept r ≡ goal
       unfolding granted_at pick
-      token-foreign h r f = ap kept f ∙ laid ∙ ap by-stage (sym e)
+      token_foreign h r f = ap kept f ∙ laid ∙ ap by_stage_lem (sym e)
         where
-          laid : kept (closed s (Refused 13)) ≡ by-stage (Token addr expiry low high)
+          laid : kept (closed s (Refused 13)) ≡ by_stage_lem (Token addr expiry low high)
           laid = simp (told tested h)
 
-      pub token-considered : b ≡ false → (r : Turn) (pending' entries' held' out' : List ℕ)
+      pub token_considered : b ≡ false → (r : Turn) (pending' entries' held' out' : List ℕ)
           → admitted (met r pending' held' out') entries' ≡ considered s datagram addr expiry low high p slots pending entries held out
           → granted (came r slots pending') entries' held' out' ≡ goal
       unfolding granted_at pick
-      token-considered h r pending' entries' held' out' f = ap (from_token (state s slots pending)) f ∙ laid ∙ ap by-stage (sym e)
+      token_considered h r pending' entries' held' out' f = ap (from_token (state s slots pending)) f ∙ laid ∙ ap by_stage_lem (sym e)
         where
           laid : from_token (state s slots pending) (considered s datagram addr expiry low high p slots pending entries held out)
-              ≡ by-stage (Token addr expiry low high)
+              ≡ by_stage_lem (Token addr expiry low high)
           laid = simp (told tested h)
 
   -- ---- the answer: n is what its tests gave
@@ -157,19 +157,19 @@ module _ (s : NetcodeServer) (p : PrivateConnectToken) (list slots pending entri
     whole = grants (state s slots pending) given p list entries public held out datagram
 
     abbrev way : Bool → Bool → Granted
-    way free agreed = pick free (pick agreed (by-stage s.ask.stage) (kept (closed s (Refused 8)))) (kept (refused s refusal))
+    way free agreed = pick free (pick agreed (by_stage_lem s.ask.stage) (kept (closed s (Refused 8)))) (kept (refused s refusal))
 
-    pub answer-refused : (n ≡ 0 → ⊥) → (r : Turn) → r ≡ refused s n → kept r ≡ whole
+    pub answer_refused : (n ≡ 0 → ⊥) → (r : Turn) → r ≡ refused s n → kept r ≡ whole
     unfolding grants pick
-    answer-refused z r f = ap kept (f ∙ ap (refused s) tested) ∙ sym (ap (λ (x : Bool). way x given) (ne_eqb refusal 0 (λ q. z (tested ∙ q))))
+    answer_refused z r f = ap kept (f ∙ ap (refused s) tested) ∙ sym (ap (λ (x : Bool). way x given) (ne_eqb refusal 0 (λ q. z (tested ∙ q))))
 
     module _ (free : n ≡ 0) where
-      pub answer-yes : given ≡ true → (r : Turn) (pending' entries' held' out' : List ℕ)
-          → granted (came r slots pending') entries' held' out' ≡ by-stage s.ask.stage
+      pub answer_yes : given ≡ true → (r : Turn) (pending' entries' held' out' : List ℕ)
+          → granted (came r slots pending') entries' held' out' ≡ by_stage_lem s.ask.stage
           → granted (came r slots pending') entries' held' out' ≡ whole
       unfolding grants pick
-      answer-yes h r pending' entries' held' out' f = f ∙ sym (ap₂ way (eq-eqb refusal 0 (told tested free)) h)
+      answer_yes h r pending' entries' held' out' f = f ∙ sym (ap₂ way (eq-eqb refusal 0 (told tested free)) h)
 
-      pub answer-no : given ≡ false → (r : Turn) → r ≡ closed s (Refused 8) → kept r ≡ whole
+      pub answer_no : given ≡ false → (r : Turn) → r ≡ closed s (Refused 8) → kept r ≡ whole
       unfolding grants pick
-      answer-no h r f = ap kept f ∙ sym (ap₂ way (eq-eqb refusal 0 (told tested free)) h)
+      answer_no h r f = ap kept f ∙ sym (ap₂ way (eq-eqb refusal 0 (told tested free)) h)

@@ -136,13 +136,13 @@ module _ (w vs us : List ℕ) (long : length w ≡ 34) (eight : length vs ≡ 8)
   high_word : (j : ℕ) → j < 12 → get_or (splice (splice w 6 vs) 22 us) (22 + j) 0 ≡ get_or us j 0
   high_word j h = get_or_splice_in (splice w 6 vs) 22 us j (omega (arith, inner, twelve)) (omega (arith, twelve, h))
 
-  first-word : (j : ℕ) → j < 6 → get_or (splice (splice w 6 vs) 22 us) j 0 ≡ get_or w j 0
-  first-word j h =
+  first_word_lem : (j : ℕ) → j < 6 → get_or (splice (splice w 6 vs) 22 us) j 0 ≡ get_or w j 0
+  first_word_lem j h =
       get_or_splice_other (splice w 6 vs) 22 us j (omega (arith, inner, twelve)) (λ (q : ℕ) l e. absurd (omega (arith, h, e)))
       ∙ get_or_splice_other w 6 vs j (omega (arith, long, eight)) (λ (q : ℕ) l e. absurd (omega (arith, h, e)))
 
-  key-words : (j : ℕ) → 14 ≤ j → j + 4 ≤ 22 → part (splice (splice w 6 vs) 22 us) j 4 ≡ part w j 4
-  key-words j l h =
+  key_words : (j : ℕ) → 14 ≤ j → j + 4 ≤ 22 → part (splice (splice w 6 vs) 22 us) j 4 ≡ part w j 4
+  key_words j l h =
       part_splice_before (splice w 6 vs) 22 us j 4 (omega (arith, inner, twelve)) h ∙ part_splice_after w 6 vs j 4 (omega (arith, long, h)) (omega (arith, eight, l))
 
 -- ---- the record
@@ -164,11 +164,11 @@ module _ (w : List ℕ) (s : NetcodeServer) (long : length w ≡ 34) where
 
   first : (j : ℕ) → j < 6 → get_or (record_words w s) j 0 ≡ get_or w j 0
   unfolding record_words
-  first j h = first-word w (moving s) (part step 1 12) long refl twelve j h
+  first j h = first_word_lem w (moving s) (part step 1 12) long refl twelve j h
 
   keys : (j : ℕ) → 14 ≤ j → j + 4 ≤ 22 → bytes_at (record_words w s) j 4 ≡ bytes_at w j 4
   unfolding record_words
-  keys j l h = ap bytes_of (key-words w (moving s) (part step 1 12) long refl twelve j l h)
+  keys j l h = ap bytes_of (key_words w (moving s) (part step 1 12) long refl twelve j l h)
 
   holds : Holds (record_words w s) step
   holds = record {
@@ -187,9 +187,9 @@ module _ (w : List ℕ) (s : NetcodeServer) (long : length w ≡ 34) where
     mac_high = high 11 (omega arith);
   }
 
-  set-up-back : set_up_in (record_words w s) ≡ set_up_in w
+  set_up_back : set_up_in (record_words w s) ≡ set_up_in w
   unfolding set_up_in
-  set-up-back =
+  set_up_back =
       simp
       (first 0 (omega arith), first 1 (omega arith), first 2 (omega arith), first 3 (omega arith), first 4 (omega arith), first 5 (omega arith), keys 14 (omega arith) (omega arith), keys 18 (omega arith) (omega arith))
 
@@ -197,7 +197,7 @@ module _ (w : List ℕ) (s : NetcodeServer) (long : length w ≡ 34) where
   unfolding record_in
   record_back fixed narrow =
       simp
-      (set-up-back, sym fixed, low 0 (omega arith), low 1 (omega arith), low 2 (omega arith), low 3 (omega arith), low 4 (omega arith), low 6 (omega arith), low 7 (omega arith), stage_back (record_words w s) s.ask.stage narrow holds)
+      (set_up_back, sym fixed, low 0 (omega arith), low 1 (omega arith), low 2 (omega arith), low 3 (omega arith), low 4 (omega arith), low 6 (omega arith), low 7 (omega arith), stage_back (record_words w s) s.ask.stage narrow holds)
 
 -- ---- the whole record, as set-up lays it
 
@@ -222,35 +222,35 @@ module _ (w : List ℕ) (s : NetcodeServer) (long : length w ≡ 34) (connect : 
   four : (key : List ℕ) → length (words 4 key) ≡ 4
   four key = length_words 4 key
 
-  long-one : length one ≡ 34
-  long-one = length_splice w 0 (standing s.set) (omega (arith, long)) ∙ long
+  long_one : length one ≡ 34
+  long_one = length_splice w 0 (standing s.set) (omega (arith, long)) ∙ long
 
-  long-two : length two ≡ 34
-  long-two = length_splice one 14 (words 4 s.set.connect_key) (omega (arith, long-one, four s.set.connect_key)) ∙ long-one
+  long_two : length two ≡ 34
+  long_two = length_splice one 14 (words 4 s.set.connect_key) (omega (arith, long_one, four s.set.connect_key)) ∙ long_one
 
-  long-three : length three ≡ 34
-  long-three = length_splice two 18 (words 4 s.set.challenge_key) (omega (arith, long-two, four s.set.challenge_key)) ∙ long-two
+  long_three : length three ≡ 34
+  long_three = length_splice two 18 (words 4 s.set.challenge_key) (omega (arith, long_two, four s.set.challenge_key)) ∙ long_two
 
   stands : (j : ℕ) → j < 6 → get_or three j 0 ≡ get_or (standing s.set) j 0
   stands j h =
       let z : j ≡ 0 + j = omega arith in
-      get_or_splice_other two 18 (words 4 s.set.challenge_key) j (omega (arith, long-two, four s.set.challenge_key)) (λ (q : ℕ) l e. absurd (omega (arith, h, e)))
-      ∙ get_or_splice_other one 14 (words 4 s.set.connect_key) j (omega (arith, long-one, four s.set.connect_key)) (λ (q : ℕ) l e. absurd (omega (arith, h, e)))
+      get_or_splice_other two 18 (words 4 s.set.challenge_key) j (omega (arith, long_two, four s.set.challenge_key)) (λ (q : ℕ) l e. absurd (omega (arith, h, e)))
+      ∙ get_or_splice_other one 14 (words 4 s.set.connect_key) j (omega (arith, long_one, four s.set.connect_key)) (λ (q : ℕ) l e. absurd (omega (arith, h, e)))
       ∙ ap (λ (k : ℕ). get_or one k 0) z
       ∙ get_or_splice_in w 0 (standing s.set) j (omega (arith, long)) h
 
-  connect-back : bytes_at three 14 4 ≡ s.set.connect_key
-  connect-back =
+  connect_back : bytes_at three 14 4 ≡ s.set.connect_key
+  connect_back =
       ap bytes_of
-      (part_splice_before two 18 (words 4 s.set.challenge_key) 14 4 (omega (arith, long-two, four s.set.challenge_key)) (omega arith)
-      ∙ part_splice_in one 14 (words 4 s.set.connect_key) 0 4 (omega (arith, long-one, four s.set.connect_key)) (omega (arith, four s.set.connect_key))
+      (part_splice_before two 18 (words 4 s.set.challenge_key) 14 4 (omega (arith, long_two, four s.set.challenge_key)) (omega arith)
+      ∙ part_splice_in one 14 (words 4 s.set.connect_key) 0 4 (omega (arith, long_one, four s.set.connect_key)) (omega (arith, four s.set.connect_key))
       ∙ part_whole (words 4 s.set.connect_key) 4 (four s.set.connect_key))
       ∙ key_back s.set.connect_key connect
 
-  challenge-back : bytes_at three 18 4 ≡ s.set.challenge_key
-  challenge-back =
+  challenge_back : bytes_at three 18 4 ≡ s.set.challenge_key
+  challenge_back =
       ap bytes_of
-      (part_splice_in two 18 (words 4 s.set.challenge_key) 0 4 (omega (arith, long-two, four s.set.challenge_key)) (omega (arith, four s.set.challenge_key))
+      (part_splice_in two 18 (words 4 s.set.challenge_key) 0 4 (omega (arith, long_two, four s.set.challenge_key)) (omega (arith, four s.set.challenge_key))
       ∙ part_whole (words 4 s.set.challenge_key) 4 (four s.set.challenge_key))
       ∙ key_back s.set.challenge_key challenge
 
@@ -259,8 +259,8 @@ module _ (w : List ℕ) (s : NetcodeServer) (long : length w ≡ 34) (connect : 
   fixed_back =
       sym
       (simp
-      (stands 0 (omega arith), stands 1 (omega arith), stands 2 (omega arith), stands 3 (omega arith), stands 4 (omega arith), stands 5 (omega arith), bit_back s.set.secure, connect-back, challenge-back))
+      (stands 0 (omega arith), stands 1 (omega arith), stands 2 (omega arith), stands 3 (omega arith), stands 4 (omega arith), stands 5 (omega arith), bit_back s.set.secure, connect_back, challenge_back))
 
   pub whole_back : NarrowStage s.ask.stage → record_in (whole_words w s) ≡ s
   unfolding whole_words
-  whole_back narrow = record_back three s long-three fixed_back narrow
+  whole_back narrow = record_back three s long_three fixed_back narrow

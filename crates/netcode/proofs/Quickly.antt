@@ -156,18 +156,18 @@ module _ (w slots pending : List ℕ) (addr : Address) (out : ℕ) (d : List ℕ
   lets idly t is-t fits wide r is-r good = simp (idly, sym is-t, fits, le-ltb out 1400 wide, sym is-r, good)
 
   module _ (free : arrival_refusal here addr out ≡ 0) where
-    pub seen-shape : Shaped slots (get_or w 0 0)
+    pub seen_shape : Shaped slots (get_or w 0 0)
     unfolding record_in set_up_in
-    seen-shape = (arrival_shaped (record_in w) slots pending addr out free).0
+    seen_shape = (arrival_shaped (record_in w) slots pending addr out free).0
 
-    pub seen-place : (r : Found) → r ≡ find_address slots (get_or w 0 0) addr → (i : ℕ) → r ≡ At i → i < get_or w 0 0
-    seen-place r is i at = ((address_found slots (get_or w 0 0) seen-shape addr i).0 (sym is ∙ at)).below
+    pub seen_place : (r : Found) → r ≡ find_address slots (get_or w 0 0) addr → (i : ℕ) → r ≡ At i → i < get_or w 0 0
+    seen_place r is i at = ((address_found slots (get_or w 0 0) seen_shape addr i).0 (sym is ∙ at)).below
 
-    seen-arrives : (k : PacketType) → type_at d ≡ kindly.Of k → (i : ℕ) → find_address slots (get_or w 0 0) addr ≡ At i → windowed k ≡ true
+    seen_arrives : (k : PacketType) → type_at d ≡ kindly.Of k → (i : ℕ) → find_address slots (get_or w 0 0) addr ≡ At i → windowed k ≡ true
         → (sequence start : ℕ) → start_at d ≡ starting.At sequence start → window_refusal slots (get_or w 0 0) i k sequence ≡ 0 → start + 16 ≤ length d
         → arrives here addr out d ≡ leaves here (open_asked (record_in w) slots (get_or w 0 0) true i k sequence start out d)
     unfolding arrives by_kind kind_arrives sealed_from sender by_start sealed_at record_in set_up_in pick
-    seen-arrives k typed i found win sequence start at window long =
+    seen_arrives k typed i found win sequence start at window long =
         simp (free, typed, request_not_windowed k win, found, at, window, le-ltb (length d) (start + 16) long)
 
     pub sees : (k : PacketType) (t : Kind) → t ≡ type_at d → t ≡ kindly.Of k → (f : Found) → f ≡ find_address slots (get_or w 0 0) addr → (i : ℕ) → f ≡ At i → (r : Seen)
@@ -177,11 +177,11 @@ module _ (w slots pending : List ℕ) (addr : Address) (out : ℕ) (d : List ℕ
     sees k t is-t typed f is_f i at (Sealed place k' sequence start) tested =
         let one : place ≡ i = tested.0 in
         let two : k' ≡ k = tested.1 in
-        let e = seen-arrives k (sym is-t ∙ typed) i (sym is_f ∙ at) tested.2 sequence start tested.3 tested.4 tested.5 in (
+        let e = seen_arrives k (sym is-t ∙ typed) i (sym is_f ∙ at) tested.2 sequence start tested.3 tested.4 tested.5 in (
           e
               ∙ ap₂ (λ (x : ℕ) (y : PacketType). leaves here (open_asked (record_in w) slots (get_or w 0 0) true x y sequence start out d)) (sym one) (sym two),
-          seen-shape,
-          omega (arith, one, seen-place f is_f i at),
+          seen_shape,
+          omega (arith, one, seen_place f is_f i at),
           typed_long d k (sym is-t ∙ typed),
         )
 
@@ -194,14 +194,14 @@ module _ (w : List ℕ) (granted : ℕ) where
       record { said = simp (ne_eqb granted 0 so); step = simp (step, typed, connected) }
 
 module _ (w : List ℕ) (granted : ℕ) (slots pending : List ℕ) (datagram out : ℕ) where
-  payload-shape : both_refusal (set_up_in w) (length slots) (length pending) ≡ 0 → Shaped slots (get_or w 0 0)
+  payload_shape : both_refusal (set_up_in w) (length slots) (length pending) ≡ 0 → Shaped slots (get_or w 0 0)
   unfolding set_up_in
-  payload-shape tables = (both_shaped (set_up_in w) slots pending tables).0
+  payload_shape tables = (both_shaped (set_up_in w) slots pending tables).0
 
-  payload-fits : Opens w granted → both_refusal (set_up_in w) (length slots) (length pending) ≡ 0 → datagram ≡ get_or w 12 0 → out ≡ get_or w 13 0 → 1400 ≤ out
+  payload_fits : Opens w granted → both_refusal (set_up_in w) (length slots) (length pending) ≡ 0 → datagram ≡ get_or w 12 0 → out ≡ get_or w 13 0 → 1400 ≤ out
       → get_or w 22 0 < get_or w 0 0 → ltb datagram (get_or w 26 0 + 16) ≡ false → open_answer_refusal (state (record_in w) slots pending) datagram out ≡ 0
   unfolding open_refusal answer_refusal unfit misfits misplaced room_of before kind_of record_in set_up_in pick
-  payload-fits step tables long room wide place within =
+  payload_fits step tables long room wide place within =
       simp (step.step, tables, eq-eqb datagram (get_or w 12 0) long, eq-eqb out (get_or w 13 0) room, lt-leb (get_or w 0 0) (get_or w 22 0) place, within, le-ltb out 1400 wide)
 
   pub hears_payload : Opens w granted → (t : ℕ) → t ≡ both_refusal (set_up_in w) (length slots) (length pending) → t ≡ 0 → datagram ≡ get_or w 12 0 → out ≡ get_or w 13 0 → 1400 ≤ out
@@ -210,8 +210,8 @@ module _ (w : List ℕ) (granted : ℕ) (slots pending : List ℕ) (datagram out
       let within : ltb datagram (get_or w 26 0 + 16) ≡ false = sym is-p ∙ not_true p whole in
       record {
         opens = step;
-        fits = payload-fits step (sym is-t ∙ fits) long room wide place within;
-        shape = payload-shape (sym is-t ∙ fits);
+        fits = payload_fits step (sym is-t ∙ fits) long room wide place within;
+        shape = payload_shape (sym is-t ∙ fits);
         place = place;
         long = ltb-false datagram (get_or w 26 0 + 16) within;
       }

@@ -32,10 +32,10 @@ use Rattle.server.proofs.Inversions.{slots_shaped, both_shaped, idle_passes}
 use Rattle.turns.specs.Outcomes.{asking, closed, answered, state, came}
 use Rattle.turns.specs.Packets.{seal_ask_with, seal_out_with, Sealing, sealing}
 use Rattle.seals.specs.Seals.{sends, seal_refusal, seals}
-use Rattle.seals.proofs.Ways.{sending-sealed, host-grants, seals-answers}
+use Rattle.seals.proofs.Ways.{sending_sealed, host_grants, seals_answers}
 use Rattle.sending.specs.Packets.{ready_refusal, generated}
 use Rattle.sending.specs.Clients.{overdue_at, client_updated, idly}
-use Rattle.sending.proofs.Ways.{packet_sized, sending-asks, payload_passes, found_below, generate-found, never_at_0, never_below_0, overdue_by_past, slot-rests, attend-found, attend-missed}
+use Rattle.sending.proofs.Ways.{packet_sized, sending_asks, payload_passes, found_below, generate_found, never_at_0, never_below_0, overdue_by_past, slot_rests, attend_found, attend_missed}
 use Rattle.netcode.specs.Laid.{set_up_in, goal_in, stage_in, record_in, stage_words, goal_words, record_words}
 use Rattle.netcode.specs.Told.{answer_words, ask_bytes, Desk, desk}
 use Rattle.netcode.specs.Calls.{yes?, turn_on, moved, moved_as, Spoke, spoke, spoke_as, attended, attended_as}
@@ -53,20 +53,20 @@ module _ (w : List ℕ) where
   unfolding stage_in goal_in pick
   stage_sending h = simp h
 
-  sending-laid : (i sequence end out : ℕ)
+  sending_laid : (i sequence end out : ℕ)
       → step_words w 8 0 out (0 ∷ i ∷ 0 ∷ sequence ∷ end ∷ 0 ∷ 0 ∷ 0 ∷ 0 ∷ 0 ∷ 0 ∷ 0 ∷ [])
       ≡ record_words w (with_ask (record_in w) (opened (Seal (Sending i) sequence end) 0 out))
   unfolding step_words record_words with_ask record_in stage_words goal_words
-  sending-laid i sequence end out = refl
+  sending_laid i sequence end out = refl
 
-  quiet-laid : (datagram out : ℕ) → step_words w 0 datagram out no_step ≡ record_words w (with_ask (record_in w) (opened Idle datagram out))
+  quiet_laid : (datagram out : ℕ) → step_words w 0 datagram out no_step ≡ record_words w (with_ask (record_in w) (opened Idle datagram out))
   unfolding step_words record_words with_ask record_in stage_words goal_words
-  quiet-laid datagram out = refl
+  quiet_laid datagram out = refl
 
   -- the record with the step that it has
-  idle-again : get_or w 11 0 ≡ 0 → with_ask (record_in w) (opened Idle (get_or w 12 0) (get_or w 13 0)) ≡ record_in w
+  idle_again : get_or w 11 0 ≡ 0 → with_ask (record_in w) (opened Idle (get_or w 12 0) (get_or w 13 0)) ≡ record_in w
   unfolding with_ask record_in
-  idle-again h =
+  idle_again h =
       ap (λ (x : Stage). server_of (set_up_in w) (get_or w 6 0) (time (get_or w 7 0) (get_or w 8 0)) (counted (get_or w 9 0) (get_or w 10 0)) (opened x (get_or w 12 0) (get_or w 13 0)))
       (sym (stage_idle h))
 
@@ -127,19 +127,19 @@ module _ (w slots payload out : List ℕ) (i : ℕ) where
   abbrev key : List ℕ
   key = bytes_at slots (send_key_at (get_or w 0 0) i) 4
 
-  abbrev to-seal : List ℕ → ℕ → Sealing
-  to-seal k x = sealing (seal_ask_with Payload (length payload) (get_or w 5 0) k x) (seal_out_with out Payload payload x)
+  abbrev to_seal : List ℕ → ℕ → Sealing
+  to_seal k x = sealing (seal_ask_with Payload (length payload) (get_or w 5 0) k x) (seal_out_with out Payload payload x)
 
   -- what the ask says of its end is the packet's need
   pub payload_generated : (id : ℕ) → Sendable w id (length payload) slots (length out) i
       → payload_sent w slots i payload out ≡ generated (record_in w) slots id payload out
   unfolding record_in set_up_in seal_ask_with asked
   payload_generated id h =
-      generate-found (record_in w) slots id payload out 0
+      generate_found (record_in w) slots id payload out 0
       (payload_passes (record_in w) (length slots) (length payload) (ready_refusal (record_in w) (length slots)) refl (ready w slots h.none h.fits) h.small)
       refl (find_id slots (get_or w 0 0) id) refl i h.found (payload_sent w slots i payload out)
-      (sending-asks (record_in w) i Payload payload out kind.Payload refl counter (need kind.Payload (length payload) counter) h.room.more refl
-      key counter refl h.room.room key refl (to-seal key counter).ask (to-seal key counter).out refl
+      (sending_asks (record_in w) i Payload payload out kind.Payload refl counter (need kind.Payload (length payload) counter) h.room.more refl
+      key counter refl h.room.room key refl (to_seal key counter).ask (to_seal key counter).out refl
       (payload_sent w slots i payload out).turn refl)
 
   module _ (answer ask : List ℕ) where
@@ -147,27 +147,27 @@ module _ (w slots payload out : List ℕ) (i : ℕ) where
     laid x s =
         spoke (turn_on (desk w answer ask) (asking (record_in w) (Seal (Sending i) x s.ask.end) 0 (length out) s.ask)) s.out
 
-    sealed-so : laid counter (to-seal key counter) ≡ spoke_as (desk w answer ask) (payload_sent w slots i payload out)
+    sealed_so : laid counter (to_seal key counter) ≡ spoke_as (desk w answer ask) (payload_sent w slots i payload out)
     unfolding seal_ask_with asked
-    sealed-so = refl
+    sealed_so = refl
 
     -- the counter and the key as they were read, the packet written, and the step laid
-    pub payload-told : (x : ℕ) → x ≡ counter → (k : List ℕ) → k ≡ key → (q : Ask) (out' : List ℕ) → sealing q out' ≡ to-seal k x
+    pub payload_told : (x : ℕ) → x ≡ counter → (k : List ℕ) → k ≡ key → (q : Ask) (out' : List ℕ) → sealing q out' ≡ to_seal k x
         → (d : Desk)
         → d ≡ desk (step_words w 8 0 (length out) (0 ∷ i ∷ 0 ∷ x ∷ q.end ∷ 0 ∷ 0 ∷ 0 ∷ 0 ∷ 0 ∷ 0 ∷ 0 ∷ [])) (answer_words answer said.Ask q) (ask_bytes ask q)
         → spoke d out' ≡ spoke_as (desk w answer ask) (payload_sent w slots i payload out)
-    payload-told x ex k ek q out' e d told =
+    payload_told x ex k ek q out' e d told =
         ap (λ (y : Desk). spoke y out') told
-        ∙ ap (λ (l : List ℕ). spoke (desk l (answer_words answer said.Ask q) (ask_bytes ask q)) out') (sending-laid w i x q.end (length out))
+        ∙ ap (λ (l : List ℕ). spoke (desk l (answer_words answer said.Ask q) (ask_bytes ask q)) out') (sending_laid w i x q.end (length out))
         ∙ ap (laid x) e
-        ∙ ap₂ (λ (l : List ℕ) (y : ℕ). laid y (to-seal l y)) ek ex
-        ∙ sealed-so
+        ∙ ap₂ (λ (l : List ℕ) (y : ℕ). laid y (to_seal l y)) ek ex
+        ∙ sealed_so
 
     -- the call
-    pub payload-spoken : (id : ℕ) → Sendable w id (length payload) slots (length out) i → (d : Desk) (out' : List ℕ)
+    pub payload_spoken : (id : ℕ) → Sendable w id (length payload) slots (length out) i → (d : Desk) (out' : List ℕ)
         → spoke d out' ≡ spoke_as (desk w answer ask) (payload_sent w slots i payload out)
         → spoke d out' ≡ spoke_as (desk w answer ask) (generated (record_in w) slots id payload out)
-    payload-spoken id h d out' e = e ∙ ap (spoke_as (desk w answer ask)) (payload_generated id h)
+    payload_spoken id h d out' e = e ∙ ap (spoke_as (desk w answer ask)) (payload_generated id h)
 
 -- ---- a packet of a slot that was sealed
 
@@ -201,9 +201,9 @@ module _ (w slots pending : List ℕ) (granted out : ℕ) (h : Sent w granted sl
   unfolding record_in set_up_in sends
   sent_seals held =
       let r = closed (record_in w) (said.PacketToSend (address_of slots (get_or w 0 0) (get_or w 23 0)) (get_or w 26 0)) in
-      seals-answers (record_in w) slots pending (yes? granted) held out (seal_refusal (state (record_in w) slots pending) out) refl sent_passes r (slot_sent w slots) pending
-      (host-grants (record_in w) slots pending (yes? granted) held out (Sending (get_or w 23 0)) (get_or w 25 0) (get_or w 26 0) (stage_sending w h.seals.step) h.seals.said r (slot_sent w slots) pending
-      (sending-sealed (record_in w) slots pending held (get_or w 25 0) (get_or w 26 0) out (Sending (get_or w 23 0)) (get_or w 23 0) refl r (slot_sent w slots) refl))
+      seals_answers (record_in w) slots pending (yes? granted) held out (seal_refusal (state (record_in w) slots pending) out) refl sent_passes r (slot_sent w slots) pending
+      (host_grants (record_in w) slots pending (yes? granted) held out (Sending (get_or w 23 0)) (get_or w 25 0) (get_or w 26 0) (stage_sending w h.seals.step) h.seals.said r (slot_sent w slots) pending
+      (sending_sealed (record_in w) slots pending held (get_or w 25 0) (get_or w 26 0) out (Sending (get_or w 23 0)) (get_or w 23 0) refl r (slot_sent w slots) refl))
 
   -- the call
   pub sent_moved : (held answer ask : List ℕ) (d : Desk) (slots' : List ℕ) → noted d slots' ≡ sent_noted (desk w answer ask) slots
@@ -224,7 +224,7 @@ pub sent_told : (w slots answer ask : List ℕ) (addr : Address) → addr ≡ ad
 sent_told w slots answer ask addr there slots' changed d told =
     ap₂ noted
     (told
-    ∙ ap₂ (λ (l : List ℕ) (a : Address). desk l (answer_words answer (said.PacketToSend a (get_or w 26 0)) no_ask) (ask_bytes ask no_ask)) (quiet-laid w 0 0) there)
+    ∙ ap₂ (λ (l : List ℕ) (a : Address). desk l (answer_words answer (said.PacketToSend a (get_or w 26 0)) no_ask) (ask_bytes ask no_ask)) (quiet_laid w 0 0) there)
     changed
 
 -- ---- a client that nothing is due for
@@ -237,29 +237,29 @@ module _ (slots : List ℕ) (n i : ℕ) (clock t : Time) (et : t ≡ time_at slo
   abbrev received : Time
   received = time_at slots (received_at n i)
 
-  rests-early : false ≡ overdue_at timeout received clock → Rests slots n i clock
-  rests-early h = record { alive = sym h; early = ap (λ (x : Time). due x clock) (sym et) ∙ sym eb ∙ f }
+  rests_early : false ≡ overdue_at timeout received clock → Rests slots n i clock
+  rests_early h = record { alive = sym h; early = ap (λ (x : Time). due x clock) (sym et) ∙ sym eb ∙ f }
 
   pub rests_at_0 : w ≡ 0 → Rests slots n i clock
-  rests_at_0 e = rests-early (never_at_0 timeout w ew received clock e)
+  rests_at_0 e = rests_early (never_at_0 timeout w ew received clock e)
 
   pub rests_below_0 : 2 ^ 31 ≤ w → Rests slots n i clock
-  rests_below_0 h = rests-early (never_below_0 timeout w ew received clock h)
+  rests_below_0 h = rests_early (never_below_0 timeout w ew received clock h)
 
   pub rests_on_time : (w ≡ 0 → ⊥) → w < 2 ^ 31 → (r : Time) → r ≡ received → (p : Bool) → p ≡ past r w clock → p ≡ false → Rests slots n i clock
-  rests_on_time z h r er p ep g = rests-early (overdue_by_past timeout w ew received clock z h r er false (sym g ∙ ep))
+  rests_on_time z h r er p ep g = rests_early (overdue_by_past timeout w ew received clock z h r er false (sym g ∙ ep))
 
 module _ (w : List ℕ) (id : ℕ) (slots : List ℕ) (none : get_or w 11 0 ≡ 0) (fits : slots_refusal (set_up_in w) (length slots) ≡ 0) (f : Found) (searched : f ≡ find_id slots (get_or w 0 0) id) where
   resting : (i : ℕ) → f ≡ At i → Rests slots (get_or w 0 0) i (time (get_or w 7 0) (get_or w 8 0)) → (out : List ℕ)
       → idly (record_in w) slots out ≡ client_updated (record_in w) slots id out
   unfolding record_in set_up_in pick
   resting i e h out =
-      attend-found (record_in w) slots id out 0 (sym (ready w slots none fits)) refl f searched i e (idly (record_in w) slots out) false
-      (slot-rests (record_in w) id slots i out false (sym h.alive) refl false (sym h.early) refl (answered (record_in w) said.Nothing) refl)
+      attend_found (record_in w) slots id out 0 (sym (ready w slots none fits)) refl f searched i e (idly (record_in w) slots out) false
+      (slot_rests (record_in w) id slots i out false (sym h.alive) refl false (sym h.early) refl (answered (record_in w) said.Nothing) refl)
 
   absent : f ≡ Nothing → (out : List ℕ) → idly (record_in w) slots out ≡ client_updated (record_in w) slots id out
   unfolding record_in set_up_in pick
-  absent e out = attend-missed (record_in w) slots id out 0 (sym (ready w slots none fits)) refl f searched e (answered (record_in w) said.Nothing) refl false
+  absent e out = attend_missed (record_in w) slots id out 0 (sym (ready w slots none fits)) refl f searched e (answered (record_in w) said.Nothing) refl false
 
   pub quiet_found : (i : ℕ) → f ≡ At i → Rests slots (get_or w 0 0) i (time (get_or w 7 0) (get_or w 8 0)) → Quiet w id slots
   quiet_found i e h = record { none = none; nothing = λ out. sym (resting i e h out) }
@@ -274,7 +274,7 @@ pub rest_told : (w answer ask : List ℕ) → get_or w 11 0 ≡ 0 → (d : Desk)
 rest_told w answer ask none d told =
     told
     ∙ ap (λ (l : List ℕ). desk l (answer_words answer said.Nothing no_ask) (ask_bytes ask no_ask))
-    (quiet-laid w (get_or w 12 0) (get_or w 13 0) ∙ ap (record_words w) (idle-again w none))
+    (quiet_laid w (get_or w 12 0) (get_or w 13 0) ∙ ap (record_words w) (idle_again w none))
 
 -- the call
 pub quiet_attended : (w : List ℕ) (id : ℕ) (slots out : List ℕ) → Quiet w id slots → (answer ask : List ℕ) (d : Desk) → d ≡ nothing_due (desk w answer ask)

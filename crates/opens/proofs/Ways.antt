@@ -56,41 +56,41 @@ use Rattle.opens.specs.Opens.{packet_opened, from_response, opened, open_answer_
 -- ---- the window: w is whether the type is windowed
 
 module _ (t : List ℕ) (n i : ℕ) (k : PacketType) (sequence : ℕ) (w : Bool) (e : w ≡ windowed k) where
-  abbrev window-after : Bool → List ℕ
-  window-after b = pick b (put_window t (window_place n i) (arrive width (window_at width t (window_place n i)) sequence)) t
+  abbrev window_after : Bool → List ℕ
+  window_after b = pick b (put_window t (window_place n i) (arrive width (window_at width t (window_place n i)) sequence)) t
 
   pub window_moved : w ≡ true → (u : List ℕ) → u ≡ put_window t (window_place n i) (arrive width (window_at width t (window_place n i)) sequence)
       → u ≡ accepted t n i k sequence
   unfolding accepted pick
-  window_moved y u f = f ∙ ap window-after (sym y ∙ e)
+  window_moved y u f = f ∙ ap window_after (sym y ∙ e)
 
   pub window_left_lem : w ≡ false → t ≡ accepted t n i k sequence
   unfolding accepted pick
-  window_left_lem y = ap window-after (sym y ∙ e)
+  window_left_lem y = ap window_after (sym y ∙ e)
 
 -- ---- what a good packet does to its slot, by the packet
 
 module _ (s : NetcodeServer) (t : List ℕ) (n i start end : ℕ) (p : Packet) (r : Turn) where
   module _ (e : r ≡ closed s answer.Nothing) where
-    pub slot-request : (a b : ℕ) → p ≡ packet.ConnectionRequest a b → half r t ≡ slot_says s t n i start end p
+    pub slot_request : (a b : ℕ) → p ≡ packet.ConnectionRequest a b → half r t ≡ slot_says s t n i start end p
     unfolding slot_says
-    slot-request a b f = ap (λ (x : Turn). half x t) e ∙ ap (slot_says s t n i start end) (sym f)
+    slot_request a b f = ap (λ (x : Turn). half x t) e ∙ ap (slot_says s t n i start end) (sym f)
 
-    pub slot-denied : p ≡ packet.ConnectionDenied → half r t ≡ slot_says s t n i start end p
+    pub slot_denied : p ≡ packet.ConnectionDenied → half r t ≡ slot_says s t n i start end p
     unfolding slot_says
-    slot-denied f = ap (λ (x : Turn). half x t) e ∙ ap (slot_says s t n i start end) (sym f)
+    slot_denied f = ap (λ (x : Turn). half x t) e ∙ ap (slot_says s t n i start end) (sym f)
 
-    pub slot-challenge : (a : ℕ) → p ≡ packet.Challenge a → half r t ≡ slot_says s t n i start end p
+    pub slot_challenge : (a : ℕ) → p ≡ packet.Challenge a → half r t ≡ slot_says s t n i start end p
     unfolding slot_says
-    slot-challenge a f = ap (λ (x : Turn). half x t) e ∙ ap (slot_says s t n i start end) (sym f)
+    slot_challenge a f = ap (λ (x : Turn). half x t) e ∙ ap (slot_says s t n i start end) (sym f)
 
-    pub slot-response : (a : ℕ) → p ≡ packet.Response a → half r t ≡ slot_says s t n i start end p
+    pub slot_response : (a : ℕ) → p ≡ packet.Response a → half r t ≡ slot_says s t n i start end p
     unfolding slot_says
-    slot-response a f = ap (λ (x : Turn). half x t) e ∙ ap (slot_says s t n i start end) (sym f)
+    slot_response a f = ap (λ (x : Turn). half x t) e ∙ ap (slot_says s t n i start end) (sym f)
 
-    pub slot-alive : (a b : ℕ) → p ≡ packet.KeepAlive a b → (u : List ℕ) → u ≡ confirmed t n i → half r u ≡ slot_says s t n i start end p
+    pub slot_alive : (a b : ℕ) → p ≡ packet.KeepAlive a b → (u : List ℕ) → u ≡ confirmed t n i → half r u ≡ slot_says s t n i start end p
     unfolding slot_says
-    slot-alive a b f u g = ap₂ half e g ∙ ap (slot_says s t n i start end) (sym f)
+    slot_alive a b f u g = ap₂ half e g ∙ ap (slot_says s t n i start end) (sym f)
 
   pub slot_payload : p ≡ packet.Payload → (id : ℕ) → id ≡ id_of t n i → (u : List ℕ) → u ≡ confirmed t n i
       → r ≡ closed s (answer.Payload id start end) → half r u ≡ slot_says s t n i start end p
@@ -116,29 +116,29 @@ challenge_asked_lem s j sequence start datagram out a e b f r g =
 
 module _ (s : NetcodeServer) (j start datagram out : ℕ) (p : Packet) (r : Turn) where
   module _ (e : r ≡ closed s answer.Nothing) where
-    pub pending-request : (a b : ℕ) → p ≡ packet.ConnectionRequest a b → r ≡ pending_says s j start datagram out p
+    pub pending_request : (a b : ℕ) → p ≡ packet.ConnectionRequest a b → r ≡ pending_says s j start datagram out p
     unfolding pending_says
-    pending-request a b f = e ∙ ap (pending_says s j start datagram out) (sym f)
+    pending_request a b f = e ∙ ap (pending_says s j start datagram out) (sym f)
 
-    pub pending-denied : p ≡ packet.ConnectionDenied → r ≡ pending_says s j start datagram out p
+    pub pending_denied : p ≡ packet.ConnectionDenied → r ≡ pending_says s j start datagram out p
     unfolding pending_says
-    pending-denied f = e ∙ ap (pending_says s j start datagram out) (sym f)
+    pending_denied f = e ∙ ap (pending_says s j start datagram out) (sym f)
 
-    pub pending-challenge : (a : ℕ) → p ≡ packet.Challenge a → r ≡ pending_says s j start datagram out p
+    pub pending_challenge : (a : ℕ) → p ≡ packet.Challenge a → r ≡ pending_says s j start datagram out p
     unfolding pending_says
-    pending-challenge a f = e ∙ ap (pending_says s j start datagram out) (sym f)
+    pending_challenge a f = e ∙ ap (pending_says s j start datagram out) (sym f)
 
-    pub pending-alive : (a b : ℕ) → p ≡ packet.KeepAlive a b → r ≡ pending_says s j start datagram out p
+    pub pending_alive : (a b : ℕ) → p ≡ packet.KeepAlive a b → r ≡ pending_says s j start datagram out p
     unfolding pending_says
-    pending-alive a b f = e ∙ ap (pending_says s j start datagram out) (sym f)
+    pending_alive a b f = e ∙ ap (pending_says s j start datagram out) (sym f)
 
-    pub pending-payload : p ≡ packet.Payload → r ≡ pending_says s j start datagram out p
+    pub pending_payload : p ≡ packet.Payload → r ≡ pending_says s j start datagram out p
     unfolding pending_says
-    pending-payload f = e ∙ ap (pending_says s j start datagram out) (sym f)
+    pending_payload f = e ∙ ap (pending_says s j start datagram out) (sym f)
 
-    pub pending-ended : p ≡ packet.Disconnect → r ≡ pending_says s j start datagram out p
+    pub pending_ended : p ≡ packet.Disconnect → r ≡ pending_says s j start datagram out p
     unfolding pending_says
-    pending-ended f = e ∙ ap (pending_says s j start datagram out) (sym f)
+    pending_ended f = e ∙ ap (pending_says s j start datagram out) (sym f)
 
   pub pending_response : (a : ℕ) → p ≡ packet.Response a → r ≡ challenge_asked s j a start datagram out → r ≡ pending_says s j start datagram out p
   unfolding pending_says
@@ -184,8 +184,8 @@ body_fits k d start h b e p f =
 
 module _ (s : NetcodeServer) (t : List ℕ) (i : ℕ) (k : PacketType) (sequence start : ℕ) (d u : List ℕ) (b : Body) (read : b ≡ body_in k start d) where
   module _ (moved : u ≡ accepted t s.set.slots i k sequence) where
-    abbrev slot-way : Body → Half
-    slot-way x = slot_body s (accepted t s.set.slots i k sequence) s.set.slots i start (length d - 16) x
+    abbrev slot_way : Body → Half
+    slot_way x = slot_body s (accepted t s.set.slots i k sequence) s.set.slots i start (length d - 16) x
 
     pub slot_whole : (p : Packet) → b ≡ Whole p → (v : List ℕ) → v ≡ touched s u s.set.slots i
         → (h : Half) → h ≡ slot_says s v s.set.slots i start (length d - 16) p → h ≡ slot_heard s t i k sequence start d
@@ -193,25 +193,25 @@ module _ (s : NetcodeServer) (t : List ℕ) (i : ℕ) (k : PacketType) (sequence
     slot_whole p f v g h e =
         e
         ∙ ap (λ (x : List ℕ). slot_says s x s.set.slots i start (length d - 16) p) (g ∙ ap (λ (x : List ℕ). touched s x s.set.slots i) moved)
-        ∙ ap slot-way (sym f ∙ read)
+        ∙ ap slot_way (sym f ∙ read)
 
-    pub slot-short : b ≡ Short → (r : Turn) → r ≡ closed s (answer.Refused 9) → half r u ≡ slot_heard s t i k sequence start d
+    pub slot_short : b ≡ Short → (r : Turn) → r ≡ closed s (answer.Refused 9) → half r u ≡ slot_heard s t i k sequence start d
     unfolding slot_heard slot_body
-    slot-short f r e = ap₂ half e moved ∙ ap slot-way (sym f ∙ read)
+    slot_short f r e = ap₂ half e moved ∙ ap slot_way (sym f ∙ read)
 
   module _ (moved : u ≡ accepted t s.set.pending i k sequence) (out : ℕ) where
-    abbrev pending-way : Body → Half
-    pending-way x = pending_body s (accepted t s.set.pending i k sequence) s.set.pending i start (length d) out x
+    abbrev pending_way : Body → Half
+    pending_way x = pending_body s (accepted t s.set.pending i k sequence) s.set.pending i start (length d) out x
 
-    pub pending-whole : (p : Packet) → b ≡ Whole p → (v : List ℕ) → v ≡ touched s u s.set.pending i
+    pub pending_whole : (p : Packet) → b ≡ Whole p → (v : List ℕ) → v ≡ touched s u s.set.pending i
         → (r : Turn) → r ≡ pending_says s i start (length d) out p → half r v ≡ pending_heard s t i k sequence start out d
     unfolding pending_heard pending_body
-    pending-whole p f v g r e =
-        ap₂ half e (g ∙ ap (λ (x : List ℕ). touched s x s.set.pending i) moved) ∙ ap pending-way (sym f ∙ read)
+    pending_whole p f v g r e =
+        ap₂ half e (g ∙ ap (λ (x : List ℕ). touched s x s.set.pending i) moved) ∙ ap pending_way (sym f ∙ read)
 
-    pub pending-short : b ≡ Short → (r : Turn) → r ≡ closed s (answer.Refused 9) → half r u ≡ pending_heard s t i k sequence start out d
+    pub pending_short : b ≡ Short → (r : Turn) → r ≡ closed s (answer.Refused 9) → half r u ≡ pending_heard s t i k sequence start out d
     unfolding pending_heard pending_body
-    pending-short f r e = ap₂ half e moved ∙ ap pending-way (sym f ∙ read)
+    pending_short f r e = ap₂ half e moved ∙ ap pending_way (sym f ∙ read)
 
 -- ---- a response whose challenge was opened
 
@@ -261,51 +261,51 @@ free_few t n s f e i g =
 
 module _ (s : NetcodeServer) (datagram : ℕ) (slots pending held out : List ℕ) (j : ℕ) (token : ChallengeToken)
     (f : Found) (searched : f ≡ find_free slots s.set.slots) where
-  abbrev free-way : Found → Prepared
-  free-way x = by_free s datagram pending held out j token x
+  abbrev free_way : Found → Prepared
+  free_way x = by_free s datagram pending held out j token x
 
   pub free_there : (i : ℕ) → f ≡ found.At i
       → (x : Prepared) → x ≡ connecting s datagram held out j i (send_key_of s pending j) (counter_of s pending j) token
-      → x ≡ free-way (find_free slots s.set.slots)
+      → x ≡ free_way (find_free slots s.set.slots)
   unfolding by_free
-  free_there i g x e = e ∙ ap free-way (sym g ∙ searched)
+  free_there i g x e = e ∙ ap free_way (sym g ∙ searched)
 
   pub free_nowhere : f ≡ found.Nothing → (key : List ℕ) → key ≡ send_key_of s pending j → (addr : Address) → addr ≡ address_of pending s.set.pending j
       → (r : Turn) (out' : List ℕ) → spoken r out' ≡ denied s datagram out key addr
-      → prepared r held out' ≡ free-way (find_free slots s.set.slots)
+      → prepared r held out' ≡ free_way (find_free slots s.set.slots)
   unfolding by_free
   free_nowhere g key ek addr ea r out' e =
-      ap (holding held) (e ∙ ap₂ (denied s datagram out) ek ea) ∙ ap free-way (sym g ∙ searched)
+      ap (holding held) (e ∙ ap₂ (denied s datagram out) ek ea) ∙ ap free_way (sym g ∙ searched)
 
 -- the pending table is q, emptied at place j; f is what the search for the challenge's id found
 module _ (s : NetcodeServer) (slots pending held out : List ℕ) (j at : ℕ) (d : List ℕ) (token : ChallengeToken) (read : token ≡ token_at d at)
     (q : List ℕ) (left : q ≡ emptied pending j) (f : Found) (searched : f ≡ find_id slots s.set.slots token.client_id) where
-  abbrev answer-to : Prepared
-  answer-to = responded s slots pending held out j at d
+  abbrev answer_to : Prepared
+  answer_to = responded s slots pending held out j at d
 
-  by_search : by_id s (length d) slots q held out j token f ≡ answer-to
+  by_search : by_id s (length d) slots q held out j token f ≡ answer_to
   unfolding responded
   by_search =
       ap₂ (λ (p : List ℕ) (x : ChallengeToken). by_id s (length d) slots p held out j x f) left read
       ∙ ap (by_id s (length d) slots (emptied pending j) held out j (token_at d at))
       (searched ∙ ap (λ (x : ChallengeToken). find_id slots s.set.slots x.client_id) read)
 
-  with-table : (x : Prepared) → x ≡ answer-to → written (came x.turn slots q) x.held x.out ≡ from_response (state s slots pending) j answer-to
-  with-table x e = ap₂ (λ (y : Prepared) (p : List ℕ). written (came y.turn slots p) y.held y.out) e left
+  with_table : (x : Prepared) → x ≡ answer_to → written (came x.turn slots q) x.held x.out ≡ from_response (state s slots pending) j answer_to
+  with_table x e = ap₂ (λ (y : Prepared) (p : List ℕ). written (came y.turn slots p) y.held y.out) e left
 
   pub response_repeated : (k : ℕ) → f ≡ found.At k → (r : Turn) → r ≡ closed s answer.Nothing
-      → written (came r slots q) held out ≡ from_response (state s slots pending) j answer-to
+      → written (came r slots q) held out ≡ from_response (state s slots pending) j answer_to
   unfolding by_id
   response_repeated k g r e =
-      with-table (prepared r held out)
+      with_table (prepared r held out)
       (ap (λ (x : Turn). prepared x held out) e ∙ ap (by_id s (length d) slots q held out j token) (sym g) ∙ by_search)
 
   pub response_new : f ≡ found.Nothing → (r : Turn) (held' out' : List ℕ)
       → prepared r held' out' ≡ by_free s (length d) q held out j token (find_free slots s.set.slots)
-      → written (came r slots q) held' out' ≡ from_response (state s slots pending) j answer-to
+      → written (came r slots q) held' out' ≡ from_response (state s slots pending) j answer_to
   unfolding by_id
   response_new g r held' out' e =
-      with-table (prepared r held' out') (e ∙ ap (by_id s (length d) slots q held out j token) (sym g) ∙ by_search)
+      with_table (prepared r held' out') (e ∙ ap (by_id s (length d) slots q held out j token) (sym g) ∙ by_search)
 
 -- ---- an ask that fits: its place is there, and its part
 
@@ -322,17 +322,17 @@ well_placed place places room at n h =
 
 module _ (connected : Bool) (place : ℕ) (k : PacketType) (sequence start slots pending datagram out : ℕ)
     (h : misfits (stage.Packet connected place k sequence start) slots pending datagram out ≡ false) where
-  in-room : (b : Bool) → connected ≡ b → misplaced place (room_of b slots pending) datagram start 16 ≡ false
+  in_room : (b : Bool) → connected ≡ b → misplaced place (room_of b slots pending) datagram start 16 ≡ false
   unfolding misfits
-  in-room b e = ap (λ (x : Bool). misplaced place (room_of x slots pending) datagram start 16) (sym e) ∙ h
+  in_room b e = ap (λ (x : Bool). misplaced place (room_of x slots pending) datagram start 16) (sym e) ∙ h
 
   pub slot_fits : connected ≡ true → (place < slots) × (start + 16 ≤ datagram)
   unfolding room_of pick
-  slot_fits e = well_placed place slots datagram start 16 (in-room true e)
+  slot_fits e = well_placed place slots datagram start 16 (in_room true e)
 
   pub pending_fits : connected ≡ false → (place < pending) × (start + 16 ≤ datagram)
   unfolding room_of pick
-  pending_fits e = well_placed place pending datagram start 16 (in-room false e)
+  pending_fits e = well_placed place pending datagram start 16 (in_room false e)
 
 pub same_fit : (x y : Stage) (slots pending datagram out : ℕ) → x ≡ y → misfits x slots pending datagram out ≡ false
     → misfits y slots pending datagram out ≡ false
@@ -367,8 +367,8 @@ pub tables_tested : (s : NetcodeServer) (slots pending : List ℕ) (datagram out
 tables_tested s slots pending datagram out tables e r f = f ∙ ap (λ (x : ℕ). open_refusal s x 1 datagram out) e
 
 module _ (t : State) (connected : Bool) (place : ℕ) (k : PacketType) (sequence start out : ℕ) (d : List ℕ) where
-  abbrev packet-way : Bool → Outcome
-  packet-way b =
+  abbrev packet_way : Bool → Outcome
+  packet_way b =
       pick b
       (let h = slot_heard t.server t.slots place k sequence start d in came h.turn h.table t.pending)
       (let h = pending_heard t.server t.pending place k sequence start out d in came h.turn t.slots h.table)
@@ -376,12 +376,12 @@ module _ (t : State) (connected : Bool) (place : ℕ) (k : PacketType) (sequence
   pub opened_slot : connected ≡ true → (r : Turn) (u : List ℕ) → half r u ≡ slot_heard t.server t.slots place k sequence start d
       → came r u t.pending ≡ packet_opened t connected place k sequence start out d
   unfolding packet_opened pick
-  opened_slot y r u e = ap (λ (h : Half). came h.turn h.table t.pending) e ∙ sym (ap packet-way y)
+  opened_slot y r u e = ap (λ (h : Half). came h.turn h.table t.pending) e ∙ sym (ap packet_way y)
 
   pub opened_pending : connected ≡ false → (r : Turn) (u : List ℕ) → half r u ≡ pending_heard t.server t.pending place k sequence start out d
       → came r t.slots u ≡ packet_opened t connected place k sequence start out d
   unfolding packet_opened pick
-  opened_pending y r u e = ap (λ (h : Half). came h.turn t.slots h.table) e ∙ sym (ap packet-way y)
+  opened_pending y r u e = ap (λ (h : Half). came h.turn t.slots h.table) e ∙ sym (ap packet_way y)
 
 module _ (t : State) (held out d : List ℕ) (x : Stage) where
   pub opened_idle : x ≡ stage.Idle → (r : Turn) → r ≡ refused t.server 17 → written (leaves t r) held out ≡ opened t held out d x
@@ -430,12 +430,12 @@ module _ (t : State) (granted : Bool) (held out d : List ℕ) (n : ℕ) (tested 
     passes : eqb refusal 0 ≡ true
     passes = eq-eqb refusal 0 (sym tested ∙ free)
 
-    pub answer-granted : granted ≡ true → (r : Turn) (u v held' out' : List ℕ)
+    pub answer_granted : granted ≡ true → (r : Turn) (u v held' out' : List ℕ)
         → written (came r u v) held' out' ≡ opened t held out d t.server.ask.stage
         → written (came r u v) held' out' ≡ opens t granted held out d
     unfolding opens pick
-    answer-granted y r u v held' out' e = e ∙ sym (ap₂ way passes y)
+    answer_granted y r u v held' out' e = e ∙ sym (ap₂ way passes y)
 
-    pub answer-declined : granted ≡ false → (r : Turn) → r ≡ closed t.server (answer.Refused 8) → written (leaves t r) held out ≡ opens t granted held out d
+    pub answer_declined : granted ≡ false → (r : Turn) → r ≡ closed t.server (answer.Refused 8) → written (leaves t r) held out ≡ opens t granted held out d
     unfolding opens pick
-    answer-declined y r e = ap (λ (x : Turn). written (leaves t x) held out) e ∙ sym (ap₂ way passes y)
+    answer_declined y r e = ap (λ (x : Turn). written (leaves t x) held out) e ∙ sym (ap₂ way passes y)

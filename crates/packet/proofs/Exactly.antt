@@ -78,17 +78,17 @@ same_number e = cc
 -- ---- the window's number
 
 module _ (guard : Guard) (kind : PacketType) (sequence : ℕ) where
-  guard-5 : windowed kind ≡ true → 2 ^ 64 ≤ sequence + width → guard_refusal kind guard sequence ≡ 5
+  guard_5 : windowed kind ≡ true → 2 ^ 64 ≤ sequence + width → guard_refusal kind guard sequence ≡ 5
   unfolding guard_refusal window_refusal refusal_by pick
-  guard-5 w h = by_test guard.given (λ e. simp (w, e, le-leb (2 ^ 64) (sequence + width) h)) (λ e. simp (w, e, le-leb (2 ^ 64) (sequence + width) h))
+  guard_5 w h = by_test guard.given (λ e. simp (w, e, le-leb (2 ^ 64) (sequence + width) h)) (λ e. simp (w, e, le-leb (2 ^ 64) (sequence + width) h))
 
-  guard-6 : windowed kind ≡ true → sequence + width < 2 ^ 64 → guard.given ≡ true → refuses width (window_of guard.window) sequence ≡ true → guard_refusal kind guard sequence ≡ 6
+  guard_6 : windowed kind ≡ true → sequence + width < 2 ^ 64 → guard.given ≡ true → refuses width (window_of guard.window) sequence ≡ true → guard_refusal kind guard sequence ≡ 6
   unfolding guard_refusal window_refusal refusal_by pick
-  guard-6 w h e r = simp (w, e, lt-leb (2 ^ 64) (sequence + width) h, r)
+  guard_6 w h e r = simp (w, e, lt-leb (2 ^ 64) (sequence + width) h, r)
 
-  guard-0 : Passes guard kind sequence → guard_refusal kind guard sequence ≡ 0
+  guard_0 : Passes guard kind sequence → guard_refusal kind guard sequence ≡ 0
   unfolding guard_refusal window_refusal refusal_by pick
-  guard-0 p =
+  guard_0 p =
       by_test (windowed kind)
       (λ w. by_test guard.given
       (λ e. simp (w, e, lt-leb (2 ^ 64) (sequence + width) (p.below w), p.fresh w e))
@@ -99,49 +99,49 @@ module _ (guard : Guard) (kind : PacketType) (sequence : ℕ) where
 
 module _ (d : List ℕ) (protocol : ℕ) (key : PrivateKey) (guard : Guard) where
   -- what decode comes to for a datagram of a type
-  decode-typed : (kind : PacketType) → Typed d kind → decode d protocol key guard ≡ decode_of d kind protocol key guard
+  decode_typed : (kind : PacketType) → Typed d kind → decode d protocol key guard ≡ decode_of d kind protocol key guard
   unfolding decode type_at pick
-  decode-typed kind t = simp (le-ltb (length d) 18 t.long) (ap (λ (x : TypeRead). by_kind d protocol key guard (typed x)) (ap type_of t.type ∙ type_reads_back kind))
+  decode_typed kind t = simp (le-ltb (length d) 18 t.long) (ap (λ (x : TypeRead). by_kind d protocol key guard (typed x)) (ap type_of t.type ∙ type_reads_back kind))
 
   -- of a sealed type, with a key and at most 8 sequence bytes
-  decode-keyed : (kind : PacketType) → Keyed d key.given kind → decode d protocol key guard ≡ by_start d kind protocol key.bytes guard (start_at d)
+  decode_keyed : (kind : PacketType) → Keyed d key.given kind → decode d protocol key guard ≡ by_start d kind protocol key.bytes guard (start_at d)
   unfolding decode_of decode_sealed pick
-  decode-keyed kind k = decode-typed kind k.typed ∙ simp (k.sealed, k.given)
+  decode_keyed kind k = decode_typed kind k.typed ∙ simp (k.sealed, k.given)
 
-  decode-started : (kind : PacketType) → Keyed d key.given kind → count_of d ≤ 8 → decode d protocol key guard ≡ decode_at d kind protocol key.bytes (sequence_of d) (1 + count_of d) guard
+  decode_started : (kind : PacketType) → Keyed d key.given kind → count_of d ≤ 8 → decode d protocol key guard ≡ decode_at d kind protocol key.bytes (sequence_of d) (1 + count_of d) guard
   unfolding start_at pick
-  decode-started kind k h = decode-keyed kind k ∙ simp (le-ltb 8 (count_of d) h)
+  decode_started kind k h = decode_keyed kind k ∙ simp (le-ltb 8 (count_of d) h)
 
   -- by the window's number
-  decode-guarded : (kind : PacketType) (n : ℕ) → Keyed d key.given kind → count_of d ≤ 8 → guard_refusal kind guard (sequence_of d) ≡ n → n ≢ 0 → decode d protocol key guard ≡ ended (decoding.Refused n) guard
+  decode_guarded : (kind : PacketType) (n : ℕ) → Keyed d key.given kind → count_of d ≤ 8 → guard_refusal kind guard (sequence_of d) ≡ n → n ≢ 0 → decode d protocol key guard ≡ ended (decoding.Refused n) guard
   unfolding decode_at pick
-  decode-guarded kind n k h e z = decode-started kind k h ∙ simp (e, ne_eqb n 0 z)
+  decode_guarded kind n k h e z = decode_started kind k h ∙ simp (e, ne_eqb n 0 z)
 
   -- a line of the table gives its number
-  says-given : (n : ℕ) → DecodeSays d key.given guard n → decode d protocol key guard ≡ ended (decoding.Refused n) guard
+  says_given : (n : ℕ) → DecodeSays d key.given guard n → decode d protocol key guard ≡ ended (decoding.Refused n) guard
   unfolding decode decode_of decode_sealed decode_at type_at start_at read_opened read_body pick
-  says-given n (says_1 h) = simp (lt-ltb (length d) 18 h)
-  says-given n (says_2 h o) = simp (le-ltb (length d) 18 h, number_untyped (get_or d 0 0 % 16) o)
-  says-given n (says_9 kind t r h) =
+  says_given n (says_1 h) = simp (lt-ltb (length d) 18 h)
+  says_given n (says_2 h o) = simp (le-ltb (length d) 18 h, number_untyped (get_or d 0 0 % 16) o)
+  says_given n (says_9 kind t r h) =
       let long : 18 ≤ length d = t.long in
       let m : length (part d 1 (length d - 1)) ≡ length d - 1 = length_part d 1 (length d - 1) (omega arith) in
       let l : least kind ≡ 1077 = request_least kind r in
-      decode-typed kind t ∙ simp (r, lt-ltb (length (part d 1 (length d - 1))) (least kind) (omega arith))
-  says-given n (says_3 kind t r k) = decode-typed kind t ∙ simp (r, k)
-  says-given n (says_4 kind k h) = decode-keyed kind k ∙ simp (lt-ltb 8 (count_of d) h)
-  says-given n (says_5 kind k h w o) = decode-guarded kind 5 k h (guard-5 guard kind (sequence_of d) w o) (λ e. omega arith)
-  says-given n (says_6 kind k h w o e r) = decode-guarded kind 6 k h (guard-6 guard kind (sequence_of d) w o e r) (λ z. omega arith)
-  says-given n (says_7 kind k h p o) =
-      decode-started kind k h ∙ simp (eq-eqb (guard_refusal kind guard (sequence_of d)) 0 (guard-0 guard kind (sequence_of d) p), lt-ltb (length d) (1 + count_of d + 16) o)
+      decode_typed kind t ∙ simp (r, lt-ltb (length (part d 1 (length d - 1))) (least kind) (omega arith))
+  says_given n (says_3 kind t r k) = decode_typed kind t ∙ simp (r, k)
+  says_given n (says_4 kind k h) = decode_keyed kind k ∙ simp (lt-ltb 8 (count_of d) h)
+  says_given n (says_5 kind k h w o) = decode_guarded kind 5 k h (guard_5 guard kind (sequence_of d) w o) (λ e. omega arith)
+  says_given n (says_6 kind k h w o e r) = decode_guarded kind 6 k h (guard_6 guard kind (sequence_of d) w o e r) (λ z. omega arith)
+  says_given n (says_7 kind k h p o) =
+      decode_started kind k h ∙ simp (eq-eqb (guard_refusal kind guard (sequence_of d)) 0 (guard_0 guard kind (sequence_of d) p), lt-ltb (length d) (1 + count_of d + 16) o)
 
   -- a datagram meets a line, or is not refused
   data Verdict : Type 0 where
     line : (n : ℕ) → DecodeSays d key.given guard n → Verdict
     none : ((n : ℕ) → (decode d protocol key guard).answer ≡ decoding.Refused n → ⊥) → Verdict
 
-  past-request : (kind : PacketType) → Typed d kind → is_request kind ≡ true → Verdict
+  past_request : (kind : PacketType) → Typed d kind → is_request kind ≡ true → Verdict
   unfolding decode_of read_opened read_body pick
-  past-request kind t r =
+  past_request kind t r =
       let long : 18 ≤ length d = t.long in
       let m : length (part d 1 (length d - 1)) ≡ length d - 1 = length_part d 1 (length d - 1) (omega arith) in
       let l : least kind ≡ 1077 = request_least kind r in
@@ -150,17 +150,17 @@ module _ (d : List ℕ) (protocol : ℕ) (key : PrivateKey) (guard : Guard) wher
       (λ e.
       let o : 1078 ≤ length d = ltb-false (length d) 1078 e in
       let f : (decode d protocol key guard).answer ≡ by_body 0 1 (length d) (Whole (numbers kind (part d 1 (length d - 1)))) =
-      ap (λ (x : Decoded). x.answer) (decode-typed kind t) ∙ simp (r, le-ltb (length (part d 1 (length d - 1))) (least kind) (omega arith)) in
+      ap (λ (x : Decoded). x.answer) (decode_typed kind t) ∙ simp (r, le-ltb (length (part d 1 (length d - 1))) (least kind) (omega arith)) in
       none (λ n g. not_read (sym f ∙ g)))
 
-  past-window : (kind : PacketType) → Keyed d key.given kind → count_of d ≤ 8 → Passes guard kind (sequence_of d) → Verdict
+  past_window : (kind : PacketType) → Keyed d key.given kind → count_of d ≤ 8 → Passes guard kind (sequence_of d) → Verdict
   unfolding decode_at pick
-  past-window kind k h p =
+  past_window kind k h p =
       by_test (ltb (length d) (1 + count_of d + 16))
       (λ e. line 7 (says_7 kind k h p (ltb-true (length d) (1 + count_of d + 16) e)))
       (λ e.
       let f : (decode d protocol key guard).answer ≡ decoding.Asked =
-      ap (λ (x : Decoded). x.answer) (decode-started kind k h) ∙ simp (eq-eqb (guard_refusal kind guard (sequence_of d)) 0 (guard-0 guard kind (sequence_of d) p), e) in
+      ap (λ (x : Decoded). x.answer) (decode_started kind k h) ∙ simp (eq-eqb (guard_refusal kind guard (sequence_of d)) 0 (guard_0 guard kind (sequence_of d) p), e) in
       none (λ n g. not_asked (sym f ∙ g)))
 
   past_head : (kind : PacketType) → Keyed d key.given kind → count_of d ≤ 8 → Verdict
@@ -174,52 +174,52 @@ module _ (d : List ℕ) (protocol : ℕ) (key : PrivateKey) (guard : Guard) wher
       by_test guard.given
       (λ g. by_test (refuses width (window_of guard.window) s)
       (λ r. line 6 (says_6 kind k h w o g r))
-      (λ r. past-window kind k h (record { below = λ x. o; fresh = λ x y. r })))
-      (λ g. past-window kind k h (record { below = λ x. o; fresh = λ x y. absurd (differ (sym g ∙ y)) }))))
-      (λ w. past-window kind k h (record { below = λ x. absurd (differ (sym w ∙ x)); fresh = λ x y. absurd (differ (sym w ∙ x)) }))
+      (λ r. past_window kind k h (record { below = λ x. o; fresh = λ x y. r })))
+      (λ g. past_window kind k h (record { below = λ x. o; fresh = λ x y. absurd (differ (sym g ∙ y)) }))))
+      (λ w. past_window kind k h (record { below = λ x. absurd (differ (sym w ∙ x)); fresh = λ x y. absurd (differ (sym w ∙ x)) }))
 
-  past-key : (kind : PacketType) → Keyed d key.given kind → Verdict
-  past-key kind k =
+  past_key : (kind : PacketType) → Keyed d key.given kind → Verdict
+  past_key kind k =
       by_test (ltb 8 (count_of d)) (λ e. line 4 (says_4 kind k (ltb-true 8 (count_of d) e))) (λ e. past_head kind k (ltb-false 8 (count_of d) e))
 
-  past-length : 18 ≤ length d → (t : TypeRead) → type_of (get_or d 0 0 % 16) ≡ t → Verdict
-  past-length h Invalid e = line 2 (says_2 h (untyped_number (get_or d 0 0 % 16) e))
-  past-length h (Known kind) e =
+  past_length : 18 ≤ length d → (t : TypeRead) → type_of (get_or d 0 0 % 16) ≡ t → Verdict
+  past_length h Invalid e = line 2 (says_2 h (untyped_number (get_or d 0 0 % 16) e))
+  past_length h (Known kind) e =
       let t : Typed d kind = record { long = h; type = typed_number (get_or d 0 0 % 16) kind e } in
       by_test (is_request kind)
-      (λ r. past-request kind t r)
+      (λ r. past_request kind t r)
       (λ r. by_test key.given
-      (λ g. past-key kind (record { typed = t; sealed = r; given = g }))
+      (λ g. past_key kind (record { typed = t; sealed = r; given = g }))
       (λ g. line 3 (says_3 kind t r g)))
 
   verdict : Verdict
-  verdict = by_test (ltb (length d) 18) (λ e. line 1 (says_1 (ltb-true (length d) 18 e))) (λ e. past-length (ltb-false (length d) 18 e) (type_of (get_or d 0 0 % 16)) refl)
+  verdict = by_test (ltb (length d) 18) (λ e. line 1 (says_1 (ltb-true (length d) 18 e))) (λ e. past_length (ltb-false (length d) 18 e) (type_of (get_or d 0 0 % 16)) refl)
 
   settle : (n : ℕ) → Verdict → (decode d protocol key guard).answer ≡ decoding.Refused n → DecodeSays d key.given guard n
-  settle n (line m s) e = subst (λ (x : ℕ). DecodeSays d key.given guard x) (same_number (sym (ap (λ (x : Decoded). x.answer) (says-given m s)) ∙ e)) s
+  settle n (line m s) e = subst (λ (x : ℕ). DecodeSays d key.given guard x) (same_number (sym (ap (λ (x : Decoded). x.answer) (says_given m s)) ∙ e)) s
   settle n (none f) e = absurd (f n e)
 
   -- decode refuses by n exactly when the table says n; and it then leaves the window as it was, and no ask open
   pub decode_exactly : (n : ℕ) → Iff ((decode d protocol key guard).answer ≡ decoding.Refused n) (DecodeSays d key.given guard n)
-  decode_exactly n = (settle n verdict, λ s. ap (λ (x : Decoded). x.answer) (says-given n s))
+  decode_exactly n = (settle n verdict, λ s. ap (λ (x : Decoded). x.answer) (says_given n s))
 
   pub decode_keeps : (n : ℕ) → (decode d protocol key guard).answer ≡ decoding.Refused n → decode d protocol key guard ≡ ended (decoding.Refused n) guard
-  decode_keeps n e = says-given n (settle n verdict e)
+  decode_keeps n e = says_given n (settle n verdict e)
 
 -- ---- what an answer lends
 
 module _ (at n len room : ℕ) where
-  lent-like : Lent at n len room → unlike at n len room ≡ false
-  lent-like l = simp (eq-eqb room len l.same, le-ltb len (at + n) l.there)
+  lent_like : Lent at n len room → unlike at n len room ≡ false
+  lent_like l = simp (eq-eqb room len l.same, le-ltb len (at + n) l.there)
 
-  like-lent : unlike at n len room ≡ false → Lent at n len room
-  like-lent e = let m = like_means at n len room e in record { same = m.0; there = m.1 }
+  like_lent : unlike at n len room ≡ false → Lent at n len room
+  like_lent e = let m = like_means at n len room e in record { same = m.0; there = m.1 }
 
-  lent-unlike : (Lent at n len room → ⊥) → unlike at n len room ≡ true
-  lent-unlike f = by_test (unlike at n len room) (λ e. e) (λ e. absurd (f (like-lent e)))
+  lent_unlike : (Lent at n len room → ⊥) → unlike at n len room ≡ true
+  lent_unlike f = by_test (unlike at n len room) (λ e. e) (λ e. absurd (f (like_lent e)))
 
-  unlike-lent : unlike at n len room ≡ true → Lent at n len room → ⊥
-  unlike-lent e l = differ (sym (lent-like l) ∙ e)
+  unlike_lent : unlike at n len room ≡ true → Lent at n len room → ⊥
+  unlike_lent e l = differ (sym (lent_like l) ∙ e)
 
 -- ---- the host's answer to an ask to open
 
@@ -228,21 +228,21 @@ module _ (kind : PacketType) (sequence start len : ℕ) (d : List ℕ) (guard : 
   body_length_lem : Lent start 16 len (length d) → length (part d start (len - 16 - start)) ≡ len - 16 - start
   body_length_lem l = let s : length d ≡ len = l.same in let t : start + 16 ≤ len = l.there in length_part d start (len - 16 - start) (omega arith)
 
-  opens-given : (n : ℕ) → OpenSays kind start len (length d) granted n → (answer_opened kind sequence start len d guard granted).answer ≡ decoding.Refused n
+  opens_given : (n : ℕ) → OpenSays kind start len (length d) granted n → (answer_opened kind sequence start len d guard granted).answer ≡ decoding.Refused n
   unfolding answer_opened read_opened read_body pick
-  opens-given n (opens_18 f) = simp (lent-unlike start 16 len (length d) f)
-  opens-given n (opens_8 l g) = simp (lent-like start 16 len (length d) l, g)
-  opens-given n (opens_9 l g h) =
-      simp (lent-like start 16 len (length d) l, g, lt-ltb (length (part d start (len - 16 - start))) (least kind) (rw (body_length_lem l) h))
+  opens_given n (opens_18 f) = simp (lent_unlike start 16 len (length d) f)
+  opens_given n (opens_8 l g) = simp (lent_like start 16 len (length d) l, g)
+  opens_given n (opens_9 l g h) =
+      simp (lent_like start 16 len (length d) l, g, lt-ltb (length (part d start (len - 16 - start))) (least kind) (rw (body_length_lem l) h))
 
-  opens-says : (n : ℕ) → (answer_opened kind sequence start len d guard granted).answer ≡ decoding.Refused n → OpenSays kind start len (length d) granted n
+  opens_says : (n : ℕ) → (answer_opened kind sequence start len d guard granted).answer ≡ decoding.Refused n → OpenSays kind start len (length d) granted n
   unfolding answer_opened read_opened read_body pick
-  opens-says n e =
+  opens_says n e =
       let says : ℕ → Type 0 = OpenSays kind start len (length d) granted in
       by_test (unlike start 16 len (length d))
-      (λ u. subst says (same_number (simp u at e)) (opens_18 (unlike-lent start 16 len (length d) u)))
+      (λ u. subst says (same_number (simp u at e)) (opens_18 (unlike_lent start 16 len (length d) u)))
       (λ u.
-      let l : Lent start 16 len (length d) = like-lent start 16 len (length d) u in
+      let l : Lent start 16 len (length d) = like_lent start 16 len (length d) u in
       by_test granted
       (λ g. by_test (ltb (length (part d start (len - 16 - start))) (least kind))
       (λ s. subst says (same_number (simp (u, g, s) at e)) (opens_9 l g (rw (body_length_lem l) at (ltb-true (length (part d start (len - 16 - start))) (least kind) s))))
@@ -251,12 +251,12 @@ module _ (kind : PacketType) (sequence start len : ℕ) (d : List ℕ) (guard : 
 
   -- an answer is refused by n exactly when the table says n
   pub open_exactly : (n : ℕ) → Iff ((answer_open (opening.Open kind sequence start len) d guard granted).answer ≡ decoding.Refused n) (OpenSays kind start len (length d) granted n)
-  open_exactly n = (opens-says n, opens-given n)
+  open_exactly n = (opens_says n, opens_given n)
 
   -- 18 leaves the ask open and the window as it was; a no leaves the window; a yes moves it, whether the body is short or not
   pub unlike_stays : (Lent start 16 len (length d) → ⊥) → answer_open (opening.Open kind sequence start len) d guard granted ≡ decoded_as (decoding.Refused 18) no_ask (opening.Open kind sequence start len) guard
   unfolding answer_opened pick
-  unlike_stays f = simp (lent-unlike start 16 len (length d) f)
+  unlike_stays f = simp (lent_unlike start 16 len (length d) f)
 
   pub no_keeps_window : granted ≡ false → (answer_open (opening.Open kind sequence start len) d guard granted).guard ≡ guard
   unfolding answer_opened pick
@@ -264,7 +264,7 @@ module _ (kind : PacketType) (sequence start len : ℕ) (d : List ℕ) (guard : 
 
   pub yes_moves_window : granted ≡ true → Lent start 16 len (length d) → (answer_open (opening.Open kind sequence start len) d guard granted).guard ≡ guard_accepts kind guard sequence
   unfolding answer_opened pick
-  yes_moves_window g l = simp (lent-like start 16 len (length d) l, g)
+  yes_moves_window g l = simp (lent_like start 16 len (length d) l, g)
 
 -- ---- encode
 
@@ -273,16 +273,16 @@ module _ (room : ℕ) (kind : PacketType) (given : ℕ) (keyed : Bool) (sequence
   may_write (inl k) = simp k
   may_write (inr r) = by_test keyed (λ k. simp k) (λ k. simp (k, r))
 
-  may-not : not keyed && not (is_request kind) ≡ false → MayWrite kind keyed
-  may-not e = by_test keyed (λ k. inl k) (λ k. by_test (is_request kind) (λ r. inr r) (λ r. absurd (differ (sym (simp (k, r) at e)))))
+  may_not : not keyed && not (is_request kind) ≡ false → MayWrite kind keyed
+  may_not e = by_test keyed (λ k. inl k) (λ k. by_test (is_request kind) (λ r. inr r) (λ r. absurd (differ (sym (simp (k, r) at e)))))
 
-  encodes-given : (n : ℕ) → EncodeSays room kind given keyed sequence n → unencodable room kind given keyed sequence ≡ n
-  encodes-given n (encodes_3 r k) = sym (lacks_key room kind given keyed sequence (simp (r, k)))
-  encodes-given n (encodes_14 m h) = sym (lacks_room room kind given keyed sequence (may_write m) h)
-  encodes-given n (encodes_9 m f h) = sym (lacks_bytes room kind given keyed sequence (may_write m) f h)
+  encodes_given : (n : ℕ) → EncodeSays room kind given keyed sequence n → unencodable room kind given keyed sequence ≡ n
+  encodes_given n (encodes_3 r k) = sym (lacks_key room kind given keyed sequence (simp (r, k)))
+  encodes_given n (encodes_14 m h) = sym (lacks_room room kind given keyed sequence (may_write m) h)
+  encodes_given n (encodes_9 m f h) = sym (lacks_bytes room kind given keyed sequence (may_write m) f h)
 
-  past-3 : {n : ℕ} → n ≢ 0 → unencodable room kind given keyed sequence ≡ n → MayWrite kind keyed → EncodeSays room kind given keyed sequence n
-  past-3 {n} z h m =
+  past_3 : {n : ℕ} → n ≢ 0 → unencodable room kind given keyed sequence ≡ n → MayWrite kind keyed → EncodeSays room kind given keyed sequence n
+  past_3 {n} z h m =
       let says : ℕ → Type 0 = EncodeSays room kind given keyed sequence in
       let wanted : ℕ = need kind given sequence in
       by_test (ltb room wanted)
@@ -293,12 +293,12 @@ module _ (room : ℕ) (kind : PacketType) (given : ℕ) (keyed : Bool) (sequence
       (λ f. let b : given < wants kind = ltb-true given (wants kind) f in subst says (lacks_bytes room kind given keyed sequence (may_write m) r b ∙ h) (encodes_9 m r b))
       (λ f. absurd (z (sym h ∙ sym (lacks_nothing room kind given keyed sequence (may_write m) r (ltb-false given (wants kind) f))))))
 
-  encodes-says : (n : ℕ) → n ≢ 0 → unencodable room kind given keyed sequence ≡ n → EncodeSays room kind given keyed sequence n
-  encodes-says n z h =
+  encodes_says : (n : ℕ) → n ≢ 0 → unencodable room kind given keyed sequence ≡ n → EncodeSays room kind given keyed sequence n
+  encodes_says n z h =
       let says : ℕ → Type 0 = EncodeSays room kind given keyed sequence in
       by_test keyed
-      (λ k. past-3 z h (inl k))
-      (λ k. by_test (is_request kind) (λ r. past-3 z h (inr r)) (λ r. subst says (lacks_key room kind given keyed sequence (simp (k, r)) ∙ h) (encodes_3 r k)))
+      (λ k. past_3 z h (inl k))
+      (λ k. by_test (is_request kind) (λ r. past_3 z h (inr r)) (λ r. subst says (lacks_key room kind given keyed sequence (simp (k, r)) ∙ h) (encodes_3 r k)))
 
 says_some : {room : ℕ} {kind : PacketType} {given : ℕ} {keyed : Bool} {sequence n : ℕ} → EncodeSays room kind given keyed sequence n → n ≢ 0
 says_some (encodes_3 r k) z = omega arith
@@ -310,13 +310,13 @@ module _ (out : List ℕ) (packet : Packet) (bytes : List ℕ) (protocol : ℕ) 
   number : ℕ
   number = unencodable (length out) (kind_of packet) (length bytes) key.given sequence
 
-  refused-by : number ≢ 0 → encode out packet bytes protocol key sequence ≡ done (refused_by number) out
+  refused_by_lem : number ≢ 0 → encode out packet bytes protocol key sequence ≡ done (refused_by number) out
   unfolding encode pick number
-  refused-by z = simp (ne_eqb number 0 z)
+  refused_by_lem z = simp (ne_eqb number 0 z)
 
-  says-number : (n : ℕ) → (encode out packet bytes protocol key sequence).encoded.answer ≡ encoding.Refused n → (number ≡ n) × (n ≢ 0)
+  says_number : (n : ℕ) → (encode out packet bytes protocol key sequence).encoded.answer ≡ encoding.Refused n → (number ≡ n) × (n ≢ 0)
   unfolding encode written_as pick number
-  says-number n e =
+  says_number n e =
       by_test (eqb number 0)
       (λ u. by_test (is_request (kind_of packet)) (λ r. absurd (not_length (simp (u, r) at e))) (λ r. absurd (not_asked_seal (simp (u, r) at e))))
       (λ u. let m : number ≡ n = same_refusal (simp u at e) in (m, λ z. eqb-false number 0 u (m ∙ z)))
@@ -325,58 +325,58 @@ module _ (out : List ℕ) (packet : Packet) (bytes : List ℕ) (protocol : ℕ) 
   pub encode_exactly : (n : ℕ) → Iff ((encode out packet bytes protocol key sequence).encoded.answer ≡ encoding.Refused n) (EncodeSays (length out) (kind_of packet) (length bytes) key.given sequence n)
   unfolding number
   encode_exactly n = (
-    (λ e. let m = says-number n e in encodes-says (length out) (kind_of packet) (length bytes) key.given sequence n m.1 m.0),
+    (λ e. let m = says_number n e in encodes_says (length out) (kind_of packet) (length bytes) key.given sequence n m.1 m.0),
     (λ s.
-        let m : number ≡ n = encodes-given (length out) (kind_of packet) (length bytes) key.given sequence n s in
+        let m : number ≡ n = encodes_given (length out) (kind_of packet) (length bytes) key.given sequence n s in
         let z : n ≢ 0 = says_some s in
-        ap (λ (x : Done). x.encoded.answer) (refused-by (λ e. z (sym m ∙ e))) ∙ ap encoding.Refused m),
+        ap (λ (x : Done). x.encoded.answer) (refused_by_lem (λ e. z (sym m ∙ e))) ∙ ap encoding.Refused m),
   )
 
   -- and then leaves the buffer as it was
   pub encode_keeps : (n : ℕ) → (encode out packet bytes protocol key sequence).encoded.answer ≡ encoding.Refused n → (encode out packet bytes protocol key sequence).out ≡ out
-  encode_keeps n e = let m = says-number n e in ap (λ (x : Done). x.out) (refused-by (λ z. m.1 (sym m.0 ∙ z)))
+  encode_keeps n e = let m = says_number n e in ap (λ (x : Done). x.out) (refused_by_lem (λ z. m.1 (sym m.0 ∙ z)))
 
 -- ---- the host's answer to an ask to seal
 
 module _ (end len : ℕ) (room : ℕ) (granted : Bool) where
   -- an answer is refused by n exactly when the table says n
-  seals-given : (n : ℕ) → SealSays end len room granted n → (answer_seal_open end len room granted).answer ≡ encoding.Refused n
+  seals_given : (n : ℕ) → SealSays end len room granted n → (answer_seal_open end len room granted).answer ≡ encoding.Refused n
   unfolding answer_seal_open pick
-  seals-given n (seals_18 f) = simp (lent-unlike end 0 len room f)
-  seals-given n (seals_24 l g) = simp (lent-like end 0 len room l, g)
+  seals_given n (seals_18 f) = simp (lent_unlike end 0 len room f)
+  seals_given n (seals_24 l g) = simp (lent_like end 0 len room l, g)
 
-  seals-says : (n : ℕ) → (answer_seal_open end len room granted).answer ≡ encoding.Refused n → SealSays end len room granted n
+  seals_says : (n : ℕ) → (answer_seal_open end len room granted).answer ≡ encoding.Refused n → SealSays end len room granted n
   unfolding answer_seal_open pick
-  seals-says n e =
+  seals_says n e =
       let says : ℕ → Type 0 = SealSays end len room granted in
       by_test (unlike end 0 len room)
-      (λ u. subst says (same_refusal (simp u at e)) (seals_18 (unlike-lent end 0 len room u)))
+      (λ u. subst says (same_refusal (simp u at e)) (seals_18 (unlike_lent end 0 len room u)))
       (λ u. by_test granted
       (λ g. absurd (not_length (simp (u, g) at e)))
-      (λ g. subst says (same_refusal (simp (u, g) at e)) (seals_24 (like-lent end 0 len room u) g)))
+      (λ g. subst says (same_refusal (simp (u, g) at e)) (seals_24 (like_lent end 0 len room u) g)))
 
-  seal-keeps : (Lent end 0 len room → ⊥) → answer_seal (sealing.Open end len) room granted ≡ encoded_as (encoding.Refused 18) no_ask (sealing.Open end len)
+  seal_keeps : (Lent end 0 len room → ⊥) → answer_seal (sealing.Open end len) room granted ≡ encoded_as (encoding.Refused 18) no_ask (sealing.Open end len)
   unfolding answer_seal_open pick
-  seal-keeps f = simp (lent-unlike end 0 len room f)
+  seal_keeps f = simp (lent_unlike end 0 len room f)
 
   pub seal_exactly : (n : ℕ) → Iff ((answer_seal (sealing.Open end len) room granted).answer ≡ encoding.Refused n) (SealSays end len room granted n)
-  seal_exactly n = (seals-says n, seals-given n)
+  seal_exactly n = (seals_says n, seals_given n)
 
 -- ---- the challenge token
 
 module _ (out : List ℕ) (at : ℕ) (t : ChallengeToken) (sequence : ℕ) (key : List ℕ) where
-  generate-exactly : (n : ℕ) → Iff ((generate_challenge out at t sequence key).encoded.answer ≡ encoding.Refused n) ((n ≡ 14) × (length out < at + 300))
+  generate_exactly : (n : ℕ) → Iff ((generate_challenge out at t sequence key).encoded.answer ≡ encoding.Refused n) ((n ≡ 14) × (length out < at + 300))
   unfolding generate_challenge pick
-  generate-exactly n = (
+  generate_exactly n = (
     (λ e. by_test (ltb (length out) (at + 300))
         (λ u. (sym (same_refusal (simp u at e)), ltb-true (length out) (at + 300) u))
         (λ u. absurd (not_asked_seal (simp u at e)))),
     (λ p. simp (lt-ltb (length out) (at + 300) p.1) (ap encoding.Refused (sym p.0))),
   )
 
-  generate-keeps : length out < at + 300 → (generate_challenge out at t sequence key).out ≡ out
+  generate_keeps : length out < at + 300 → (generate_challenge out at t sequence key).out ≡ out
   unfolding generate_challenge pick
-  generate-keeps h = simp (lt-ltb (length out) (at + 300) h)
+  generate_keeps h = simp (lt-ltb (length out) (at + 300) h)
 
 demand_exactly : (room at sequence : ℕ) (key : List ℕ) (n : ℕ) → Iff ((decode_challenge room at sequence key).answer ≡ proving.Refused n) ((n ≡ 9) × (room < at + 300))
 unfolding decode_challenge pick
@@ -388,24 +388,24 @@ demand_exactly room at sequence key n = (
 )
 
 module _ (at len : ℕ) (src : List ℕ) (granted : Bool) where
-  proves-given : (n : ℕ) → ProofSays at len (length src) granted n → (answer_proof at len src granted).answer ≡ proving.Refused n
+  proves_given : (n : ℕ) → ProofSays at len (length src) granted n → (answer_proof at len src granted).answer ≡ proving.Refused n
   unfolding answer_proof pick
-  proves-given n (proves_18 f) = simp (lent-unlike at 300 len (length src) f)
-  proves-given n (proves_8 l g) = simp (lent-like at 300 len (length src) l, g)
+  proves_given n (proves_18 f) = simp (lent_unlike at 300 len (length src) f)
+  proves_given n (proves_8 l g) = simp (lent_like at 300 len (length src) l, g)
 
-  proves-says : (n : ℕ) → (answer_proof at len src granted).answer ≡ proving.Refused n → ProofSays at len (length src) granted n
+  proves_says : (n : ℕ) → (answer_proof at len src granted).answer ≡ proving.Refused n → ProofSays at len (length src) granted n
   unfolding answer_proof pick
-  proves-says n e =
+  proves_says n e =
       let says : ℕ → Type 0 = ProofSays at len (length src) granted in
       by_test (unlike at 300 len (length src))
-      (λ u. subst says (same_proof (simp u at e)) (proves_18 (unlike-lent at 300 len (length src) u)))
+      (λ u. subst says (same_proof (simp u at e)) (proves_18 (unlike_lent at 300 len (length src) u)))
       (λ u. by_test granted
       (λ g. absurd (not_proved (simp (u, g) at e)))
-      (λ g. subst says (same_proof (simp (u, g) at e)) (proves_8 (like-lent at 300 len (length src) u) g)))
+      (λ g. subst says (same_proof (simp (u, g) at e)) (proves_8 (like_lent at 300 len (length src) u) g)))
 
-  proves-keeps : (Lent at 300 len (length src) → ⊥) → answer_proof at len src granted ≡ unproved 18 (proof.Open at len)
+  proves_keeps : (Lent at 300 len (length src) → ⊥) → answer_proof at len src granted ≡ unproved 18 (proof.Open at len)
   unfolding answer_proof pick
-  proves-keeps f = simp (lent-unlike at 300 len (length src) f)
+  proves_keeps f = simp (lent_unlike at 300 len (length src) f)
 
 -- ---- the one statement
 
@@ -422,11 +422,11 @@ refusals = record {
   encodes_nothing = encode_keeps;
   seals_none = λ room granted. refl;
   seals = seal_exactly;
-  seals_stays = seal-keeps;
-  generates = generate-exactly;
-  generates_nothing = generate-keeps;
+  seals_stays = seal_keeps;
+  generates = generate_exactly;
+  generates_nothing = generate_keeps;
   demands = demand_exactly;
   proves_none = λ src granted. refl;
-  proves = λ at len src granted n. (proves-says at len src granted n, proves-given at len src granted n);
-  proves_stays = proves-keeps;
+  proves = λ at len src granted n. (proves_says at len src granted n, proves_given at len src granted n);
+  proves_stays = proves_keeps;
 }

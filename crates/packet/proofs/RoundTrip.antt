@@ -61,80 +61,80 @@ module _ (k : PacketType) (sequence : ℕ) (rest : List ℕ) where
       let n : b % 16 ≡ number_of k = omega (arith, number_below k) in
       simp (le-ltb (length (head_bytes (number_of k) sequence ++ rest)) 18 long) (ap typed (ap type_of n ∙ type_reads_back k))
 
-  reads-count : count_of (head_bytes (number_of k) sequence ++ rest) ≡ fewest sequence
-  reads-count = omega arith
+  reads_count : count_of (head_bytes (number_of k) sequence ++ rest) ≡ fewest sequence
+  reads_count = omega arith
 
-  reads-sequence : sequence < 256 ^ 8 → sequence_of (head_bytes (number_of k) sequence ++ rest) ≡ sequence
-  reads-sequence h =
+  reads_sequence : sequence < 256 ^ 8 → sequence_of (head_bytes (number_of k) sequence ++ rest) ≡ sequence
+  reads_sequence h =
       let d : List ℕ = head_bytes (number_of k) sequence ++ rest in
       let f : ℕ = fewest sequence in
-      ap (λ (n : ℕ). of_le (part d 1 n)) reads-count
+      ap (λ (n : ℕ). of_le (part d 1 n)) reads_count
       ∙ ap of_le (take_at (to_le f sequence) rest f (length_to_le f sequence))
       ∙ of_le_to_le f sequence (fewest_means sequence h).holds
 
-  reads-start : sequence < 256 ^ 8 → start_at (head_bytes (number_of k) sequence ++ rest) ≡ starting.At sequence (1 + fewest sequence)
+  reads_start : sequence < 256 ^ 8 → start_at (head_bytes (number_of k) sequence ++ rest) ≡ starting.At sequence (1 + fewest sequence)
   unfolding start_at pick
-  reads-start h =
+  reads_start h =
       let d : List ℕ = head_bytes (number_of k) sequence ++ rest in
-      simp (le-ltb 8 (count_of d) (omega (arith, reads-count, fewest_le sequence h))) (ap₂ starting.At (reads-sequence h) (ap (λ (n : ℕ). 1 + n) reads-count))
+      simp (le-ltb 8 (count_of d) (omega (arith, reads_count, fewest_le sequence h))) (ap₂ starting.At (reads_sequence h) (ap (λ (n : ℕ). 1 + n) reads_count))
 
-  length-datagram : length (head_bytes (number_of k) sequence ++ rest) ≡ 1 + fewest sequence + length rest
-  length-datagram =
+  length_datagram : length (head_bytes (number_of k) sequence ++ rest) ≡ 1 + fewest sequence + length rest
+  length_datagram =
       let n : length (to_le (fewest sequence) sequence) ≡ fewest sequence = length_to_le (fewest sequence) sequence in
       omega (arith, length-append (head_bytes (number_of k) sequence) rest)
 
-  seal-there : part (head_bytes (number_of k) sequence ++ rest) (1 + fewest sequence) (length (head_bytes (number_of k) sequence ++ rest) - (1 + fewest sequence)) ≡ rest
-  seal-there =
+  seal_there : part (head_bytes (number_of k) sequence ++ rest) (1 + fewest sequence) (length (head_bytes (number_of k) sequence ++ rest) - (1 + fewest sequence)) ≡ rest
+  seal_there =
       let head : List ℕ = head_bytes (number_of k) sequence in
-      let n : length (head ++ rest) ≡ 1 + fewest sequence + length rest = length-datagram in
+      let n : length (head ++ rest) ≡ 1 + fewest sequence + length rest = length_datagram in
       let l : length (head ++ rest) - (1 + fewest sequence) ≡ length rest = omega arith in
       let z : 1 + fewest sequence ≡ length head + 0 = omega (arith, length_to_le (fewest sequence) sequence) in
       ap₂ (λ (i m : ℕ). part (head ++ rest) i m) z l ∙ part_right head rest 0 (length rest) ∙ part_whole rest (length rest) refl
 
-  text-there : (text : List ℕ) → length rest ≡ length text + 16
+  text_there : (text : List ℕ) → length rest ≡ length text + 16
       → part (splice (head_bytes (number_of k) sequence ++ rest) (1 + fewest sequence) text) (1 + fewest sequence) (length (head_bytes (number_of k) sequence ++ rest) - 16 - (1 + fewest sequence)) ≡ text
-  text-there text m =
+  text_there text m =
       let d : List ℕ = head_bytes (number_of k) sequence ++ rest in
       let at : ℕ = 1 + fewest sequence in
-      let n : length d ≡ at + length rest = length-datagram in
+      let n : length d ≡ at + length rest = length_datagram in
       let l : length d - 16 - at ≡ length text = omega arith in
       ap (part (splice d at text) at) l ∙ part_splice_same d at text (omega arith)
 
   -- so it is asked for, with the rest as the sealed part
-  reads-asks : (protocol : ℕ) (key : PrivateKey) (guard : Guard) → 18 ≤ length (head_bytes (number_of k) sequence ++ rest) → sequence < 256 ^ 8 → 16 ≤ length rest
+  reads_asks : (protocol : ℕ) (key : PrivateKey) (guard : Guard) → 18 ≤ length (head_bytes (number_of k) sequence ++ rest) → sequence < 256 ^ 8 → 16 ≤ length rest
       → is_request k ≡ false → key.given ≡ true → guard_refusal k guard sequence ≡ 0
       → decode (head_bytes (number_of k) sequence ++ rest) protocol key guard
       ≡ decoded_as decoding.Asked
       (packet_ask work.Open key.bytes sequence (prefix_byte (number_of k) (fewest sequence)) protocol (1 + fewest sequence) (length (head_bytes (number_of k) sequence ++ rest)))
       (opening.Open k sequence (1 + fewest sequence) (length (head_bytes (number_of k) sequence ++ rest))) guard
   unfolding decode decode_of decode_sealed decode_at pick
-  reads-asks protocol key guard long below tag request keyed passes =
+  reads_asks protocol key guard long below tag request keyed passes =
       let d : List ℕ = head_bytes (number_of k) sequence ++ rest in
-      let n : length d ≡ 1 + fewest sequence + length rest = length-datagram in
+      let n : length d ≡ 1 + fewest sequence + length rest = length_datagram in
       ap (by_kind d protocol key guard) (reads_type long)
       ∙ simp (request, keyed)
-      (ap (by_start d k protocol key.bytes guard) (reads-start below)
+      (ap (by_start d k protocol key.bytes guard) (reads_start below)
       ∙ simp (eq-eqb (guard_refusal k guard sequence) 0 passes, le-ltb (length d) (1 + fewest sequence + 16) (omega arith)))
 
   -- and after a yes that gave text, the body is the text, whatever stood there
-  reads-text : (guard : Guard) (text : List ℕ) (packet : Packet) → length rest ≡ length text + 16 → read_body k text ≡ Whole packet
+  reads_text : (guard : Guard) (text : List ℕ) (packet : Packet) → length rest ≡ length text + 16 → read_body k text ≡ Whole packet
       → answer_open (opening.Open k sequence (1 + fewest sequence) (length (head_bytes (number_of k) sequence ++ rest))) (splice (head_bytes (number_of k) sequence ++ rest) (1 + fewest sequence) text) guard true
       ≡ ended (decoding.Read (opened sequence packet (1 + fewest sequence) (length (head_bytes (number_of k) sequence ++ rest) - 16))) (guard_accepts k guard sequence)
   unfolding answer_opened read_opened pick
-  reads-text guard text packet m whole =
+  reads_text guard text packet m whole =
       let d : List ℕ = head_bytes (number_of k) sequence ++ rest in
       let at : ℕ = 1 + fewest sequence in
-      let n : length d ≡ at + length rest = length-datagram in
+      let n : length d ≡ at + length rest = length_datagram in
       let e : length (splice d at text) ≡ length d = length_splice d at text (omega arith) in
-      let there : part (splice d at text) at (length d - 16 - at) ≡ text = text-there text m in
+      let there : part (splice d at text) at (length d - 16 - at) ≡ text = text_there text m in
       simp (eq-eqb (length (splice d at text)) (length d) e, le-ltb (length d) (at + 16) (omega arith), there, whole)
 
 -- ---- what was written and sealed is such a datagram
 
 module _ (out head text seal : List ℕ) (start end : ℕ) (heads : length head ≡ start) (tags : length seal ≡ length text + 16) (ends : end ≡ start + length text + 16) (fits : end ≤ length out) where
   -- the text stands where the seal is asked for
-  text-written : part (splice out 0 (head ++ text)) start (end - 16 - start) ≡ text
-  text-written =
+  text_written : part (splice out 0 (head ++ text)) start (end - 16 - start) ≡ text
+  text_written =
       let n : length (head ++ text) ≡ length head + length text = length-append head text in
       let l : end - 16 - start ≡ length text = omega arith in
       let z : start ≡ 0 + length head = omega arith in
@@ -146,8 +146,8 @@ module _ (out head text seal : List ℕ) (start end : ℕ) (heads : length head 
       ∙ part_whole text (length text) refl
 
   -- and with the seal in its place the datagram is head and seal
-  seal-written : part (splice (splice out 0 (head ++ text)) start seal) 0 end ≡ head ++ seal
-  seal-written =
+  seal_written : part (splice (splice out 0 (head ++ text)) start seal) 0 end ≡ head ++ seal
+  seal_written =
       let n : length (head ++ seal) ≡ length head + length seal = length-append head seal in
       let l : length (splice out 0 head) ≡ length out = length_splice out 0 head (omega arith) in
       let e : end ≡ length (head ++ seal) = omega arith in
@@ -196,25 +196,25 @@ module _ (h : Host) (out : List ℕ) (packet : Packet) (bytes : List ℕ) (proto
       (λ e. absurd (clash' (simp e at asked)))
 
   -- the seal of its body: under the key, the sequence as nonce, with version, protocol and prefix byte
-  sealOf : List ℕ
-  sealOf = h.seal key.bytes (packet_nonce sequence) (take 22 (additional_data (prefix_byte (number_of (kind_of packet)) (fewest sequence)) protocol)) (body packet bytes)
+  seal_of : List ℕ
+  seal_of = h.seal key.bytes (packet_nonce sequence) (take 22 (additional_data (prefix_byte (number_of (kind_of packet)) (fewest sequence)) protocol)) (body packet bytes)
 
   -- what it comes to, with the figures of a sealed packet
-  encode-asks : encode out packet bytes protocol key sequence
+  encode_asks : encode out packet bytes protocol key sequence
       ≡ done (encoded_as encoding.Asked
       (packet_ask work.Seal key.bytes sequence (prefix_byte (number_of (kind_of packet)) (fewest sequence)) protocol (1 + fewest sequence) (1 + fewest sequence + body_length (kind_of packet) (length bytes) + 16))
       (sealing.Open (1 + fewest sequence + body_length (kind_of packet) (length bytes) + 16) (length out)))
       (splice out 0 (head_bytes (number_of (kind_of packet)) sequence ++ body packet bytes))
   unfolding encode written_as shown tag_places pick
-  encode-asks =
+  encode_asks =
       let kind : PacketType = kind_of packet in
       let (request, rest) = asked_means in
       let keyed : not key.given && not (is_request kind) ≡ false = simp rest.0 in
       simp (eq-eqb (unencodable (length out) kind (length bytes) key.given sequence) 0 (sym (lacks_nothing (length out) kind (length bytes) key.given sequence keyed rest.1.0 rest.1.1)), request)
 
   -- the datagram is the head and that seal
-  sent_is : sent h (encode out packet bytes protocol key sequence) ≡ head_bytes (number_of (kind_of packet)) sequence ++ sealOf
-  unfolding sealOf
+  sent_is : sent h (encode out packet bytes protocol key sequence) ≡ head_bytes (number_of (kind_of packet)) sequence ++ seal_of
+  unfolding seal_of
   sent_is =
       let kind : PacketType = kind_of packet in
       let room = asked_means.1.1 in
@@ -229,47 +229,47 @@ module _ (h : Host) (out : List ℕ) (packet : Packet) (bytes : List ℕ) (proto
       let t : length (f text) ≡ length text + 16 = h.tagged _ _ _ text in
       let e : end ≡ start + length text + 16 = omega arith in
       let fits : end ≤ length out = omega arith in
-      ap (sent h) encode-asks
-      ∙ ap (λ (x : List ℕ). part (splice (splice out 0 (head ++ text)) start (f x)) 0 end) (text-written out head text (f text) start end a t e fits)
-      ∙ seal-written out head text (f text) start end a t e fits
+      ap (sent h) encode_asks
+      ∙ ap (λ (x : List ℕ). part (splice (splice out 0 (head ++ text)) start (f x)) 0 end) (text_written out head text (f text) start end a t e fits)
+      ∙ seal_written out head text (f text) start end a t e fits
 
-  length-seal : length sealOf ≡ length (body packet bytes) + 16
-  unfolding sealOf
-  length-seal = h.tagged _ _ _ (body packet bytes)
+  length_seal : length seal_of ≡ length (body packet bytes) + 16
+  unfolding seal_of
+  length_seal = h.tagged _ _ _ (body packet bytes)
 
   pub length_sent : length (sent h (encode out packet bytes protocol key sequence)) ≡ 1 + fewest sequence + length (body packet bytes) + 16
   length_sent =
       ap length sent_is
-      ∙ length-datagram (kind_of packet) sequence sealOf
-      ∙ (let t : length sealOf ≡ length (body packet bytes) + 16 = length-seal in omega arith)
+      ∙ length_datagram (kind_of packet) sequence seal_of
+      ∙ (let t : length seal_of ≡ length (body packet bytes) + 16 = length_seal in omega arith)
 
   -- for every type and sequence: a datagram of 18 bytes or more whose sequence the window does not refuse is read back
   pub round_trip : (guard : Guard) → Ranged packet → sequence < 256 ^ 8 → guard_refusal (kind_of packet) guard sequence ≡ 0
       → 18 ≤ length (sent h (encode out packet bytes protocol key sequence))
       → ReadBack h packet bytes protocol key sequence guard (encode out packet bytes protocol key sequence).encoded.ask (sent h (encode out packet bytes protocol key sequence))
-  unfolding sealOf
+  unfolding seal_of
   round_trip guard ranged below passes long =
       let kind : PacketType = kind_of packet in
       let start : ℕ = 1 + fewest sequence in
       let end : ℕ = start + body_length kind (length bytes) + 16 in
       let p : ℕ = prefix_byte (number_of kind) (fewest sequence) in
-      let d : List ℕ = head_bytes (number_of kind) sequence ++ sealOf in
+      let d : List ℕ = head_bytes (number_of kind) sequence ++ seal_of in
       let text : List ℕ = body packet bytes in
       let (request, rest) = asked_means in
-      let t : length sealOf ≡ length text + 16 = length-seal in
+      let t : length seal_of ≡ length text + 16 = length_seal in
       let b : length text ≡ body_length kind (length bytes) = length_body packet bytes rest.1.1 in
-      let n : length d ≡ start + length sealOf = length-datagram kind sequence sealOf in
+      let n : length d ≡ start + length seal_of = length_datagram kind sequence seal_of in
       let ends : length d ≡ end = omega arith in
-      let here : part d start (end - start) ≡ sealOf = ap (λ (i : ℕ). part d start (i - start)) (sym ends) ∙ seal-there kind sequence sealOf in
+      let here : part d start (end - start) ≡ seal_of = ap (λ (i : ℕ). part d start (i - start)) (sym ends) ∙ seal_there kind sequence seal_of in
       subst⁻¹ (λ (x : List ℕ). ReadBack h packet bytes protocol key sequence guard (encode out packet bytes protocol key sequence).encoded.ask x) sent_is
-      (subst⁻¹ (λ (a : Ask). ReadBack h packet bytes protocol key sequence guard a d) (ap (λ (x : Done). x.encoded.ask) encode-asks)
+      (subst⁻¹ (λ (a : Ask). ReadBack h packet bytes protocol key sequence guard a d) (ap (λ (x : Done). x.encoded.ask) encode_asks)
       (record {
         asks =
-            reads-asks kind sequence sealOf protocol key guard (rw sent_is at long) below (omega arith) request rest.0 passes
+            reads_asks kind sequence seal_of protocol key guard (rw sent_is at long) below (omega arith) request rest.0 passes
             ∙ ap (λ (i : ℕ). decoded_as decoding.Asked (packet_ask work.Open key.bytes sequence p protocol start i) (opening.Open kind sequence start (length d)) guard) ends;
         agrees = ap (h.opens key.bytes (packet_nonce sequence) (take 22 (additional_data p protocol))) here ∙ h.honest _ _ _ text;
-        reads = reads-text kind sequence sealOf guard text packet t (body_reads_back packet bytes ranged rest.1.1);
-        holds = ap (beside kind) (text-there kind sequence sealOf text t) ∙ beside_reads_back packet bytes rest.1.1;
+        reads = reads_text kind sequence seal_of guard text packet t (body_reads_back packet bytes ranged rest.1.1);
+        holds = ap (beside kind) (text_there kind sequence seal_of text t) ∙ beside_reads_back packet bytes rest.1.1;
       }))
 
   -- a datagram of fewer has 17, and is refused as 1: that is a packet with an empty body at sequence 0, so a denied, a disconnect or a
@@ -297,24 +297,24 @@ module _ (protocol expiry : ℕ) (bytes : List ℕ) (enough : 1061 ≤ length by
   requested : List ℕ
   requested = body (ConnectionRequest protocol expiry) bytes
 
-  length-requested : length (0 ∷ requested) ≡ 1078
+  length_requested : length (0 ∷ requested) ≡ 1078
   unfolding requested
-  length-requested = omega (arith, length_body (ConnectionRequest protocol expiry) bytes enough)
+  length_requested = omega (arith, length_body (ConnectionRequest protocol expiry) bytes enough)
 
-  request-encodes : (out : List ℕ) (id sequence : ℕ) (key : PrivateKey) → 1078 ≤ length out
+  request_encodes : (out : List ℕ) (id sequence : ℕ) (key : PrivateKey) → 1078 ≤ length out
       → encode out (ConnectionRequest protocol expiry) bytes id key sequence ≡ done (encoded_as (encoding.Length 1078) no_ask sealing.Closed) (splice out 0 (0 ∷ requested))
   unfolding encode written_as shown tag_places pick requested to_le
-  request-encodes out id sequence key room =
+  request_encodes out id sequence key room =
       let n : need kind.ConnectionRequest (length bytes) sequence ≡ 1078 = omega (arith, fewest_zero) in
       let e : unencodable (length out) kind.ConnectionRequest (length bytes) key.given sequence ≡ 0 =
       sym (lacks_nothing (length out) kind.ConnectionRequest (length bytes) key.given sequence (never_lacks key.given) (omega arith) enough) in
       simp (eq-eqb (unencodable (length out) kind.ConnectionRequest (length bytes) key.given sequence) 0 e, fewest_zero)
 
-  request-decodes : (id : ℕ) (key : PrivateKey) (guard : Guard) → Ranged (ConnectionRequest protocol expiry)
+  request_decodes : (id : ℕ) (key : PrivateKey) (guard : Guard) → Ranged (ConnectionRequest protocol expiry)
       → decode (0 ∷ requested) id key guard ≡ ended (decoding.Read (opened 0 (ConnectionRequest protocol expiry) 1 1078)) guard
   unfolding decode decode_of type_at read_opened pick type_of requested
-  request-decodes id key guard ranged =
-      let n : length (0 ∷ requested) ≡ 1078 = length-requested in
+  request_decodes id key guard ranged =
+      let n : length (0 ∷ requested) ≡ 1078 = length_requested in
       let m : length requested ≡ 1077 = omega arith in
       let w : read_body kind.ConnectionRequest (part (0 ∷ requested) 1 1077) ≡ Whole (ConnectionRequest protocol expiry) =
       ap (read_body kind.ConnectionRequest) (part_whole requested 1077 m) ∙ body_reads_back (ConnectionRequest protocol expiry) bytes ranged enough in
@@ -329,15 +329,15 @@ pub request_trip : (out : List ℕ) (protocol expiry : ℕ) (bytes : List ℕ) (
     × (beside kind.ConnectionRequest (part d 1 1077) ≡ part bytes 0 1061))
 unfolding requested
 request_trip out protocol expiry bytes id sequence key key' guard room enough ranged =
-    let e = request-encodes protocol expiry bytes enough out id sequence key room in
+    let e = request_encodes protocol expiry bytes enough out id sequence key room in
     let b : List ℕ = requested protocol expiry bytes enough in
-    let n : length (0 ∷ b) ≡ 1078 = length-requested protocol expiry bytes enough in
+    let n : length (0 ∷ b) ≡ 1078 = length_requested protocol expiry bytes enough in
     let m : length b ≡ 1077 = omega arith in
     let same : part (encode out (ConnectionRequest protocol expiry) bytes id key sequence).out 0 1078 ≡ 0 ∷ b =
     ap (λ (x : Done). part x.out 0 1078) e ∙ ap (part (splice out 0 (0 ∷ b)) 0) (sym n) ∙ part_splice_same out 0 (0 ∷ b) (omega arith) in (
       ap (λ (x : Done). x.encoded) e,
       (
-        ap (λ (x : List ℕ). decode x id key' guard) same ∙ request-decodes protocol expiry bytes enough id key' guard ranged,
+        ap (λ (x : List ℕ). decode x id key' guard) same ∙ request_decodes protocol expiry bytes enough id key' guard ranged,
         ap (λ (x : List ℕ). beside kind.ConnectionRequest (part x 1 1077)) same ∙ ap (beside kind.ConnectionRequest) (part_whole b 1077 m) ∙ beside_reads_back (ConnectionRequest protocol expiry) bytes enough,
       ),
     )

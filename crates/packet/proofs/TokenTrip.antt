@@ -39,9 +39,9 @@ module _ (h : Host) (out : List ℕ) (at : ℕ) (t : ChallengeToken) (sequence :
   pub buffer : List ℕ
   buffer = sealed_in h (generate_challenge out at t sequence key).encoded.ask (generate_challenge out at t sequence key).out
 
-  buffer-is : buffer ≡ splice out at sealed
+  buffer_is : buffer ≡ splice out at sealed
   unfolding buffer sealed
-  buffer-is =
+  buffer_is =
       let clear : List ℕ = token_clear t in
       let f : List ℕ → List ℕ = h.seal key (packet_nonce sequence) (take 0 (zeros 22)) in
       let n : length clear ≡ 284 = length_clear t user in
@@ -51,33 +51,33 @@ module _ (h : Host) (out : List ℕ) (at : ℕ) (t : ChallengeToken) (sequence :
       ∙ ap (λ (x : List ℕ). splice (splice out at clear) at (f x)) (ap (part (splice out at clear) at) k ∙ part_splice_same out at clear (omega arith))
       ∙ splice_over out at clear (f clear) (omega arith) (omega arith)
 
-  length-sealed : length sealed ≡ 300
+  length_sealed : length sealed ≡ 300
   unfolding sealed
-  length-sealed = omega (arith, length_clear t user, h.tagged key (packet_nonce sequence) (take 0 (zeros 22)) (token_clear t))
+  length_sealed = omega (arith, length_clear t user, h.tagged key (packet_nonce sequence) (take 0 (zeros 22)) (token_clear t))
 
-  length-buffer : length buffer ≡ length out
-  length-buffer = ap length buffer-is ∙ length_splice out at sealed (omega (arith, length-sealed))
+  length_buffer : length buffer ≡ length out
+  length_buffer = ap length buffer_is ∙ length_splice out at sealed (omega (arith, length_sealed))
 
   -- decode asks to open it, and keeps nothing else
   pub token_asks : decode_challenge (length buffer) at sequence key ≡ challenged_as Asked (token_ask work.Open key sequence at (at + 300)) (Open at (length buffer)) no_token
   unfolding decode_challenge pick
-  token_asks = simp (le-ltb (length buffer) (at + 300) (omega (arith, length-buffer)))
+  token_asks = simp (le-ltb (length buffer) (at + 300) (omega (arith, length_buffer)))
 
   -- the host says yes
   pub token_agrees : said_of h (token_ask work.Open key sequence at (at + 300)) buffer ≡ Yes (token_clear t)
   unfolding sealed
   token_agrees =
-      let n : length sealed ≡ 300 = length-sealed in
+      let n : length sealed ≡ 300 = length_sealed in
       let k : at + 300 - at ≡ length sealed = omega arith in
       ap (h.opens key (packet_nonce sequence) (take 0 (zeros 22)))
-      (ap₂ (λ (l : List ℕ) (i : ℕ). part l at i) buffer-is k ∙ part_splice_same out at sealed (omega arith))
+      (ap₂ (λ (l : List ℕ) (i : ℕ). part l at i) buffer_is k ∙ part_splice_same out at sealed (omega arith))
       ∙ h.honest _ _ _ (token_clear t)
 
   -- and its answer gives the token
   pub token_trip : answer_challenge (Open at (length buffer)) (opened_in (token_ask work.Open key sequence at (at + 300)) buffer (token_clear t)) true ≡ challenged_as Proved no_ask Closed t
   unfolding answer_proof pick
   token_trip =
-      let n : length buffer ≡ length out = length-buffer in
+      let n : length buffer ≡ length out = length_buffer in
       let m : length (token_clear t) ≡ 284 = length_clear t user in
       let l : length (splice buffer at (token_clear t)) ≡ length buffer = length_splice buffer at (token_clear t) (omega arith) in
       simp (eq-eqb (length (splice buffer at (token_clear t))) (length buffer) l, le-ltb (length buffer) (at + 300) (omega arith))

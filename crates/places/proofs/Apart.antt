@@ -46,12 +46,12 @@ module _ (n i : ℕ) (t u : List ℕ) (else : Elsewhere n i t u) where
         (λ f. others p q h k (eqb-false i p e) (eqb-false i q f) a b s))
 
     -- emptying
-    pub distinct-emptied : used_at u i ≡ false → Distinct key u n
-    distinct-emptied e = by_place_lem (λ q k d a b s. true_false a e)
+    pub distinct_emptied : used_at u i ≡ false → Distinct key u n
+    distinct_emptied e = by_place_lem (λ q k d a b s. true_false a e)
 
     -- filling with a key that no used place has
-    pub distinct-filled : (ks : List ℕ) → field_of u n i key ≡ ks → NoneOf (Keyed t n key ks) n → Distinct key u n
-    distinct-filled ks e none =
+    pub distinct_filled : (ks : List ℕ) → field_of u n i key ≡ ks → NoneOf (Keyed t n key ks) n → Distinct key u n
+    distinct_filled ks e none =
         by_place_lem (λ q k d a b s. none q k (sym (used_kept q k d) ∙ b, sym (else.same q k d key inside) ∙ sym s ∙ e))
 
 -- a table with the same columns has the same used keys

@@ -54,10 +54,10 @@ module _ (t u : List ℕ) (n i : ℕ) (other : (j : ℕ) → j < n → (i ≡ j 
   before zero b h = refl
   before (suc k) b h = ap₂ (λ (x y : ℕ). x + count_one y) (before k (omega arith) (omega arith)) (other k b (λ e. omega arith))
 
-  one-changed : (k : ℕ) → k ≤ n → i < k → used_count u k + count_one (get_or t i 0) ≡ used_count t k + count_one (get_or u i 0)
+  one_changed : (k : ℕ) → k ≤ n → i < k → used_count u k + count_one (get_or t i 0) ≡ used_count t k + count_one (get_or u i 0)
   unfolding used_count
-  one-changed zero b h = absurd (omega arith)
-  one-changed (suc k) b h =
+  one_changed zero b h = absurd (omega arith)
+  one_changed (suc k) b h =
       let l : i ≤ k = omega arith in
       ⊎_elim
       (λ e.
@@ -68,17 +68,17 @@ module _ (t u : List ℕ) (n i : ℕ) (other : (j : ℕ) → j < n → (i ≡ j 
       let f : count_one (get_or t k 0) ≡ count_one (get_or t i 0) = ap count_one c in
       omega arith)
       (λ q.
-      let a = one-changed k (omega arith) q in
+      let a = one_changed k (omega arith) q in
       let r : count_one (get_or u k 0) ≡ count_one (get_or t k 0) = ap count_one (other k b (λ e. omega arith)) in
       omega arith)
       (eq-or-lt_of_le l)
 
   -- a free place taken, and a used one emptied
   pub count_taken : i < n → get_or t i 0 ≡ 0 → (get_or u i 0 ≡ 0 → ⊥) → used_count u n ≡ used_count t n + 1
-  count_taken h e f = omega (arith, one-changed n (omega arith) h, empty_counts (get_or t i 0) e, used_counts (get_or u i 0) f)
+  count_taken h e f = omega (arith, one_changed n (omega arith) h, empty_counts (get_or t i 0) e, used_counts (get_or u i 0) f)
 
   pub count_emptied : i < n → (get_or t i 0 ≡ 0 → ⊥) → get_or u i 0 ≡ 0 → used_count u n + 1 ≡ used_count t n
-  count_emptied h e f = omega (arith, one-changed n (omega arith) h, used_counts (get_or t i 0) e, empty_counts (get_or u i 0) f)
+  count_emptied h e f = omega (arith, one_changed n (omega arith) h, used_counts (get_or t i 0) e, empty_counts (get_or u i 0) f)
 
 -- ---- full
 

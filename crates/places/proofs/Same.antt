@@ -25,12 +25,12 @@ module _ (n : ℕ) (t u : List ℕ) (same : SameColumns n t u) where
   pub same_mark : (i : ℕ) → i < n → get_or u i 0 ≡ get_or t i 0
   same_mark i h = same_word t u n i mark (same.marks i h) 0 i (omega arith) (omega arith)
 
-  same-used : (i : ℕ) → i < n → used_at u i ≡ used_at t i
-  same-used i h = ap used_mark (same_mark i h)
+  same_used : (i : ℕ) → i < n → used_at u i ≡ used_at t i
+  same_used i h = ap used_mark (same_mark i h)
 
-  same-has-id : (x i : ℕ) → i < n → has_id u n x i ≡ has_id t n x i
+  same_has_id : (x i : ℕ) → i < n → has_id u n x i ≡ has_id t n x i
   unfolding has_id
-  same-has-id x i h = ap₂ (λ (p : Bool) (y : ℕ). p && eqb y x) (same-used i h) (same_word t u n i id (same.ids i h) 0 (n + i) (omega arith) (omega arith))
+  same_has_id x i h = ap₂ (λ (p : Bool) (y : ℕ). p && eqb y x) (same_used i h) (same_word t u n i id (same.ids i h) 0 (n + i) (omega arith) (omega arith))
 
   same_words : (i : ℕ) → i < n → (f l g : ℕ) → has_words u (address_at n i) f l g ≡ has_words t (address_at n i) f l g
   unfolding has_words
@@ -42,27 +42,27 @@ module _ (n : ℕ) (t u : List ℕ) (same : SameColumns n t u) where
       let c : get_or u (at + 2) 0 ≡ get_or t (at + 2) 0 = same_word t u n i addr e 2 (at + 2) (omega arith) (omega arith) in
       ap₂ (λ (x y : Bool). x && y) (ap (λ (x : ℕ). eqb x f) a) (ap₂ (λ (x y : ℕ). eqb x l && eqb y g) b c)
 
-  same-has-address : (f l g i : ℕ) → i < n → has_address u n f l g i ≡ has_address t n f l g i
+  same_has_address : (f l g i : ℕ) → i < n → has_address u n f l g i ≡ has_address t n f l g i
   unfolding has_address
-  same-has-address f l g i h = ap₂ (λ (x y : Bool). x && y) (same-used i h) (same_words i h f l g)
+  same_has_address f l g i h = ap₂ (λ (x y : Bool). x && y) (same_used i h) (same_words i h f l g)
 
   pub same_find_address : (a : Address) → find_address u n a ≡ find_address t n a
   same_find_address a =
-      first_ext (has_address u n (first_word a) a.low a.high) (has_address t n (first_word a) a.low a.high) 0 n (λ j _ b. same-has-address (first_word a) a.low a.high j (omega arith))
+      first_ext (has_address u n (first_word a) a.low a.high) (has_address t n (first_word a) a.low a.high) 0 n (λ j _ b. same_has_address (first_word a) a.low a.high j (omega arith))
 
   pub same_find_id : (x : ℕ) → find_id u n x ≡ find_id t n x
-  same_find_id x = first_ext (has_id u n x) (has_id t n x) 0 n (λ j _ b. same-has-id x j (omega arith))
+  same_find_id x = first_ext (has_id u n x) (has_id t n x) 0 n (λ j _ b. same_has_id x j (omega arith))
 
   pub same_find_free : find_free u n ≡ find_free t n
   same_find_free = first_ext (free_at u) (free_at t) 0 n (λ j _ b. let h : j < n = omega arith in ap (λ (x : ℕ). eqb x 0) (same_mark j h))
 
-  same-count-below : (k : ℕ) → k ≤ n → used_count u k ≡ used_count t k
+  same_count_below : (k : ℕ) → k ≤ n → used_count u k ≡ used_count t k
   unfolding used_count
-  same-count-below zero h = refl
-  same-count-below (suc k) h = ap₂ (λ (x y : ℕ). x + count_one y) (same-count-below k (omega arith)) (same_mark k (omega arith))
+  same_count_below zero h = refl
+  same_count_below (suc k) h = ap₂ (λ (x y : ℕ). x + count_one y) (same_count_below k (omega arith)) (same_mark k (omega arith))
 
   pub same_count : used_count u n ≡ used_count t n
-  same_count = same-count-below n (omega arith)
+  same_count = same_count_below n (omega arith)
 
 -- ---- a store to a body
 

@@ -79,9 +79,9 @@ module _ (t : List ℕ) (n : ℕ) (shape : Shaped t n) where
         ap (λ (j : ℕ). get_or t j 0) p ∙ q ∙ ap (λ (j : ℕ). get_or (v ∷ []) j 0) (sym z)),
   )
 
-  three-words : (i : ℕ) (f : Field) → Within f → i < n → f.size ≡ 3 → (at a b c : ℕ) → field_at f n i ≡ at
+  three_words : (i : ℕ) (f : Field) → Within f → i < n → f.size ≡ 3 → (at a b c : ℕ) → field_at f n i ≡ at
       → (field_of t n i f ≡ a ∷ b ∷ c ∷ []) ↔ ((get_or t at 0 ≡ a) × (get_or t (at + 1) 0 ≡ b) × (get_or t (at + 2) 0 ≡ c))
-  three-words i f w h s at a b c e = (
+  three_words i f w h s at a b c e = (
     λ q. (
       sym (word_of_lem t n i f 0 at (omega arith) (omega arith)) ∙ ap (λ (l : List ℕ). get_or l 0 0) q,
       sym (word_of_lem t n i f 1 (at + 1) (omega arith) (omega arith)) ∙ ap (λ (l : List ℕ). get_or l 1 0) q,
@@ -108,7 +108,7 @@ module _ (t : List ℕ) (n : ℕ) (shape : Shaped t n) where
   unfolding has_address
   address_test a i h =
       let at = address_at n i in
-      let w = three-words i addr (omega arith) h refl at (first_word a) a.low a.high (add-zero at) in
+      let w = three_words i addr (omega arith) h refl at (first_word a) a.low a.high (add-zero at) in
       let x = has_words_exactly t at (first_word a) a.low a.high in (
         λ e. let b = (and-eq-true_iff (used_at t i) (has_words t at (first_word a) a.low a.high)).0 e in (b.0, w.1 (x.0 b.1)),
         λ k. ap₂ (λ (p q : Bool). p && q) k.0 (x.1 (w.0 k.1)),

@@ -27,7 +27,7 @@ use Rattle.queries.specs.declared.Reply.TheVariants.{Refused, Nothing, Connected
 use Rattle.queries.specs.Replies.{number_of}
 use Rattle.queries.specs.Queries.{with_slots, by_slot, connected_clients, is_connected, client_address, time_since, Outcome, told, user_data_of, listed_into, public_into}
 use Rattle.queries.specs.Exact.{SomeOf}
-use Rattle.queries.proofs.Ways.{is_shaped, is_found, is-missed}
+use Rattle.queries.proofs.Ways.{is_shaped, is_found, is_missed}
 
 -- ---- while an ask is open
 
@@ -124,7 +124,7 @@ module _ (s : NetcodeServer) (slots : List ℕ) (x : ℕ) (taken : slots_refusal
   none_answers w out = (by Refused _ _, by Refused _ _, by Refused _ _, by (λ n. told (Refused n) out) _ _)
     where
       by : {A : Type 0} (refused at : ℕ → A) (none : A) → with_slots s slots refused (by_slot (find_id slots s.set.slots x) at none) ≡ none
-      by refused at none = sym (is-missed s slots _ refl taken x _ refl refused at none (missed.1 w))
+      by refused at none = sym (is_missed s slots _ refl taken x _ refl refused at none (missed.1 w))
 
   -- connected exactly where some used slot has the id
   pub connected-exactly : (is_connected s slots x ≡ Connected) ↔ SomeOf (Named s slots x) s.set.slots

@@ -47,26 +47,26 @@ module _ (t : List ℕ) (n : ℕ) (ids : Bool) where
   Put list r k i = (r ≡ splice list 0 (listed t n ids i)) × (k ≡ used_count t i) × (i ≤ n) × (length r ≡ length list)
 
   module _ (list : List ℕ) (room : used_count t n ≤ length list) where
-    pub put-start : Put list list 0 0
+    pub put_start : Put list list 0 0
     unfolding listed used_count
-    put-start = (sym (splice_none list 0), refl, omega arith, refl)
+    put_start = (sym (splice_none list 0), refl, omega arith, refl)
 
     module _ (r : List ℕ) (k i : ℕ) (w : Put list r k i) where
-      pub put-room : i < n → k + count_one (get_or t i 0) ≤ length r
-      put-room h =
+      pub put_room : i < n → k + count_one (get_or t i 0) ≤ length r
+      put_room h =
           let e : k + count_one (get_or t i 0) ≡ used_count t (i + 1) = count_turn t i k (count_one (get_or t i 0)) w.1 refl in
           omega (arith, count_grows t (i + 1) n (omega arith), w.3)
 
-      pub put-turn : i < n → (u : List ℕ) (j : ℕ) → u ≡ splice r k (of_place t n ids i) → j ≡ k + count_one (get_or t i 0)
+      pub put_turn : i < n → (u : List ℕ) (j : ℕ) → u ≡ splice r k (of_place t n ids i) → j ≡ k + count_one (get_or t i 0)
           → Put list u j (i + 1)
-      put-turn h u j e f = (
+      put_turn h u j e f = (
         splice_then list r u 0 (listed t n ids i) k (of_place t n ids i) w.0 e (omega (arith, listed_count t n ids i, w.1))
-            (omega (arith, added_count t n ids i, put-room h, w.3))
+            (omega (arith, added_count t n ids i, put_room h, w.3))
             ∙ ap (splice list 0) (sym (listed_more t n ids i)),
         f ∙ count_turn t i k (count_one (get_or t i 0)) w.1 refl,
         omega arith,
-        ap length e ∙ length_splice r k (of_place t n ids i) (omega (arith, added_count t n ids i, put-room h)) ∙ w.3,
+        ap length e ∙ length_splice r k (of_place t n ids i) (omega (arith, added_count t n ids i, put_room h)) ∙ w.3,
       )
 
-      pub put-end : n ≤ i → r ≡ splice list 0 (listed t n ids n)
-      put-end h = let e : i ≡ n = omega (arith, w.2) in w.0 ∙ ap (λ (m : ℕ). splice list 0 (listed t n ids m)) e
+      pub put_end : n ≤ i → r ≡ splice list 0 (listed t n ids n)
+      put_end h = let e : i ≡ n = omega (arith, w.2) in w.0 ∙ ap (λ (m : ℕ). splice list 0 (listed t n ids m)) e

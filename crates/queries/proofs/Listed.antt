@@ -57,8 +57,8 @@ module _ (t : List ℕ) (n : ℕ) (ids : Bool) where
 
 module _ (t : List ℕ) (k : ℕ) (l : List ℕ) (w : ExactlyUsed t k l) where
   -- an empty place adds nothing
-  past-empty : used_at t k ≡ false → ExactlyUsed t (suc k) l
-  past-empty e = record {
+  past_empty : used_at t k ≡ false → ExactlyUsed t (suc k) l
+  past_empty e = record {
     rising = w.rising;
     used = λ p h. let u = w.used p h in (omega (arith, u.0), u.1);
     every = λ i h u.
@@ -76,8 +76,8 @@ module _ (t : List ℕ) (k : ℕ) (l : List ℕ) (w : ExactlyUsed t k l) where
   new : (p : ℕ) → p ≡ length l → get_or (l ++ (k ∷ [])) p 0 ≡ k
   new p e = get_or_at l k [] 0 p (sym e)
 
-  past-used : used_at t k ≡ true → ExactlyUsed t (suc k) (l ++ (k ∷ []))
-  past-used e = record {
+  past_used : used_at t k ≡ true → ExactlyUsed t (suc k) (l ++ (k ∷ []))
+  past_used e = record {
     rising = λ p q h b.
         let c : q ≤ length l = omega (arith, long) in
         ⊎_elim
@@ -112,23 +112,23 @@ exactly_used t n (suc k) =
     let l : List ℕ = listed t n false k in
     let w : ExactlyUsed t k l = exactly_used t n k in
     by_test (used_at t k)
-    (λ e. rw (one_added t n false k e) (past-used t k l w e))
-    (λ e. rw (none_added t n false k e, append-nil l) (past-empty t k l w e))
+    (λ e. rw (one_added t n false k e) (past_used t k l w e))
+    (λ e. rw (none_added t n false k e, append-nil l) (past_empty t k l w e))
 
 -- ---- the ids' list
 
 module _ (t : List ℕ) (n : ℕ) where
-  id-added : (k : ℕ) (b : Bool) → pick b (value_of t n true k ∷ []) [] ≡ map (id_of t n) (pick b (value_of t n false k ∷ []) [])
+  id_added : (k : ℕ) (b : Bool) → pick b (value_of t n true k ∷ []) [] ≡ map (id_of t n) (pick b (value_of t n false k ∷ []) [])
   unfolding pick value_of
-  id-added k true = refl
-  id-added k false = refl
+  id_added k true = refl
+  id_added k false = refl
 
   -- the ids are those of the slots, one by one
   pub ids_of_slots : (k : ℕ) → listed t n true k ≡ map (id_of t n) (listed t n false k)
   unfolding listed
   ids_of_slots zero = refl
   ids_of_slots (suc k) =
-      ap₂ (λ (x y : List ℕ). x ++ y) (ids_of_slots k) (id-added k (used_at t k))
+      ap₂ (λ (x y : List ℕ). x ++ y) (ids_of_slots k) (id_added k (used_at t k))
       ∙ sym (map-append (id_of t n) (listed t n false k) (of_place t n false k))
 
   mapped : (f : ℕ → ℕ) (l : List ℕ) (p : ℕ) → p < length l → get_or (map f l) p 0 ≡ f (get_or l p 0)

@@ -48,49 +48,49 @@ module _ (s : NetcodeServer) (slots : List ℕ) (r : ℕ) (tested : r ≡ slots_
   is_shaped zero = slots_shaped s.set slots (sym tested ∙ zero)
 
   module _ {A : Type 0} (refused : ℕ → A) (next : A) where
-    pub is-refused : (r ≡ 0 → ⊥) → refused r ≡ with_slots s slots refused next
-    is-refused = stops r (slots_refusal s.set (length slots)) tested refused next
+    pub is_refused : (r ≡ 0 → ⊥) → refused r ≡ with_slots s slots refused next
+    is_refused = stops r (slots_refusal s.set (length slots)) tested refused next
 
-    pub is-next : r ≡ 0 → next ≡ with_slots s slots refused next
-    is-next = passes r (slots_refusal s.set (length slots)) tested refused next
+    pub is_next : r ≡ 0 → next ≡ with_slots s slots refused next
+    is_next = passes r (slots_refusal s.set (length slots)) tested refused next
 
   -- f is what the search for an id found
   module _ (zero : r ≡ 0) (id : ℕ) (f : Found) (found : f ≡ find_id slots s.set.slots id) where
-    pub is-place : (i : ℕ) → f ≡ At i → Shaped slots s.set.slots × (i < s.set.slots)
-    is-place i e = (is_shaped zero, ((id_found slots s.set.slots (is_shaped zero) id i).0 (sym found ∙ e)).below)
+    pub is_place : (i : ℕ) → f ≡ At i → Shaped slots s.set.slots × (i < s.set.slots)
+    is_place i e = (is_shaped zero, ((id_found slots s.set.slots (is_shaped zero) id i).0 (sym found ∙ e)).below)
 
     module _ {A : Type 0} (refused : ℕ → A) (at : ℕ → A) (none : A) where
       by_found_lem : by_slot f at none ≡ with_slots s slots refused (by_slot (find_id slots s.set.slots id) at none)
-      by_found_lem = ap (λ (x : Found). by_slot x at none) found ∙ is-next refused (by_slot (find_id slots s.set.slots id) at none) zero
+      by_found_lem = ap (λ (x : Found). by_slot x at none) found ∙ is_next refused (by_slot (find_id slots s.set.slots id) at none) zero
 
       pub is_found : (i : ℕ) → f ≡ At i → at i ≡ with_slots s slots refused (by_slot (find_id slots s.set.slots id) at none)
       unfolding by_slot
       is_found i e = sym (ap (λ (x : Found). by_slot x at none) e) ∙ by_found_lem
 
-      pub is-missed : f ≡ Nothing → none ≡ with_slots s slots refused (by_slot (find_id slots s.set.slots id) at none)
+      pub is_missed : f ≡ Nothing → none ≡ with_slots s slots refused (by_slot (find_id slots s.set.slots id) at none)
       unfolding by_slot
-      is-missed e = sym (ap (λ (x : Found). by_slot x at none) e) ∙ by_found_lem
+      is_missed e = sym (ap (λ (x : Found). by_slot x at none) e) ∙ by_found_lem
 
 -- a list of the slots: r is what their test gave, k their count
 module _ (s : NetcodeServer) (slots list : List ℕ) (ids : Bool) (r : ℕ) (tested : r ≡ slots_refusal s.set (length slots)) where
   pub list_refused : (r ≡ 0 → ⊥) → told (Refused r) list ≡ listed_into s slots ids list
   unfolding listed_into
-  list_refused = is-refused s slots r tested (λ (n : ℕ). told (Refused n) list) _
+  list_refused = is_refused s slots r tested (λ (n : ℕ). told (Refused n) list) _
 
   module _ (zero : r ≡ 0) (k : ℕ) (counted : k ≡ used_count slots s.set.slots) where
-    pub list-short : length list < k → told (Refused 14) list ≡ listed_into s slots ids list
+    pub list_short : length list < k → told (Refused 14) list ≡ listed_into s slots ids list
     unfolding listed_into
-    list-short h =
+    list_short h =
         is_short (length list) (used_count slots s.set.slots) (told (Refused 14) list) _ (omega arith)
-        ∙ is-next s slots r tested (λ (n : ℕ). told (Refused n) list) _ zero
+        ∙ is_next s slots r tested (λ (n : ℕ). told (Refused n) list) _ zero
 
-    pub list-filled : k ≤ length list → (left : List ℕ) → left ≡ splice list 0 (listed slots s.set.slots ids s.set.slots)
+    pub list_filled : k ≤ length list → (left : List ℕ) → left ≡ splice list 0 (listed slots s.set.slots ids s.set.slots)
         → told (Count k) left ≡ listed_into s slots ids list
     unfolding listed_into
-    list-filled h left e =
+    list_filled h left e =
         ap₂ (λ (x : ℕ) (y : List ℕ). told (Count x) y) counted e
         ∙ is_enough (length list) (used_count slots s.set.slots) (told (Refused 14) list) _ (omega arith)
-        ∙ is-next s slots r tested (λ (n : ℕ). told (Refused n) list) _ zero
+        ∙ is_next s slots r tested (λ (n : ℕ). told (Refused n) list) _ zero
 
 -- r is what the test of the public addresses gave
 module _ (s : NetcodeServer) (public list : List ℕ) (r : ℕ) (tested : r ≡ list_refusal s.set (length public)) where
@@ -99,16 +99,16 @@ module _ (s : NetcodeServer) (public list : List ℕ) (r : ℕ) (tested : r ≡ 
   public_refused = stops r (list_refusal s.set (length public)) tested (λ (n : ℕ). told (Refused n) list) _
 
   module _ (zero : r ≡ 0) where
-    pub public-short : length list < length public → told (Refused 14) list ≡ public_into s public list
+    pub public_short : length list < length public → told (Refused 14) list ≡ public_into s public list
     unfolding public_into
-    public-short h =
+    public_short h =
         is_short (length list) (length public) (told (Refused 14) list) _ h
         ∙ passes r (list_refusal s.set (length public)) tested (λ (n : ℕ). told (Refused n) list) _ zero
 
-    pub public-copied : length public ≤ length list → (left : List ℕ) → left ≡ splice list 0 (part public 0 (length public))
+    pub public_copied : length public ≤ length list → (left : List ℕ) → left ≡ splice list 0 (part public 0 (length public))
         → told (Count s.set.addresses) left ≡ public_into s public list
     unfolding public_into
-    public-copied h left e =
+    public_copied h left e =
         ap (told (Count s.set.addresses)) (e ∙ ap (splice list 0) (part_whole public (length public) refl))
         ∙ is_enough (length list) (length public) (told (Refused 14) list) _ h
         ∙ passes r (list_refusal s.set (length public)) tested (λ (n : ℕ). told (Refused n) list) _ zero

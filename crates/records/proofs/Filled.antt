@@ -42,9 +42,9 @@ module _ (c : Connection) (sized : Sized c) where
   unfolding body_of words
   body_length_lem = omega (arith, sized.ring)
 
-  ring-part : part (body_of c) 49 width ≡ (window_of c.replay_protection).ring
+  ring_part : part (body_of c) 49 width ≡ (window_of c.replay_protection).ring
   unfolding body_of words
-  ring-part = take_all width (window_of c.replay_protection).ring (omega (arith, sized.ring))
+  ring_part = take_all width (window_of c.replay_protection).ring (omega (arith, sized.ring))
 
   module _ (t : List ℕ) (n i : ℕ) (shape : Shaped t n) (here : i < n) where
     u : List ℕ
@@ -75,9 +75,9 @@ module _ (c : Connection) (sized : Sized c) where
     address_word k h =
         sym (word_of_lem u n i addr k (address_at n i + k) h (omega arith)) ∙ ap (λ (l : List ℕ). get_or l k 0) words3
 
-    pub filled-reads : ReadsAs (filled t n i c) n i c
+    pub filled_reads : ReadsAs (filled t n i c) n i c
     unfolding u body_of words window_at
-    filled-reads = record {
+    filled_reads = record {
       used = placed_used t n i shape here c.client_id (words_of c.addr) (body_of c) refl body_length_lem;
       client_id =
           sym (word_of_lem u n i id 0 (id_at n i) (omega arith) (omega arith))
@@ -95,7 +95,7 @@ module _ (c : Connection) (sized : Sized c) where
       sequence = word 14 (omega arith);
       expiry = word 15 (omega arith);
       user_data = ap bytes_of (run 16 32 (omega arith)) ∙ unpacked 32 c.user_data sized.user_bytes sized.user;
-      replay = ap₂ window (word 48 (omega arith)) (ap (λ (j : ℕ). part u j width) after ∙ run 49 width (omega arith) ∙ ring-part);
+      replay = ap₂ window (word 48 (omega arith)) (ap (λ (j : ℕ). part u j width) after ∙ run 49 width (omega arith) ∙ ring_part);
     }
       where
         small : (w : ℕ) → w < 4294967296 → w % 4294967296 ≡ w

@@ -19,7 +19,7 @@ use Rattle.places.proofs.Frame.{shaped_kept}
 use Rattle.places.proofs.Ways.{empty_unused}
 use Rattle.places.proofs.Searches.{Free, address_found, address_none, id_found, id_none, true_false}
 use Rattle.places.proofs.Counted.{count_taken, count_emptied, all_free_count}
-use Rattle.places.proofs.Apart.{mark_kept, used_kept, distinct-emptied, distinct-filled}
+use Rattle.places.proofs.Apart.{mark_kept, used_kept, distinct_emptied, distinct_filled}
 use Rattle.records.specs.declared.Connection.{Connection}
 use Rattle.records.specs.Records.{body_of, placed, filled, emptied, moved}
 use Rattle.records.specs.Reads.{Sized}
@@ -34,7 +34,7 @@ module _ (t : List ℕ) (n i : ℕ) (shape : Shaped t n) (here : i < n) where
   emptied-mark = get_or-set_same t i 0 0 (omega (arith, shape.long))
 
   pub emptied-distinct : (key : Field) → Within key → Distinct key t n → Distinct key (emptied t i) n
-  emptied-distinct key w d = distinct-emptied n i t (emptied t i) (emptied_elsewhere t n i shape here) key w d (empty_unused (emptied t i) i emptied-mark)
+  emptied-distinct key w d = distinct_emptied n i t (emptied t i) (emptied_elsewhere t n i shape here) key w d (empty_unused (emptied t i) i emptied-mark)
 
   pub emptied-count : (get_or t i 0 ≡ 0 → ⊥) → used_count (emptied t i) n + 1 ≡ used_count t n
   emptied-count u = count_emptied t (emptied t i) n i (mark_kept n i t (emptied t i) (emptied_elsewhere t n i shape here)) here u emptied-mark
@@ -51,11 +51,11 @@ module _ (t : List ℕ) (n i : ℕ) (shape : Shaped t n) (here : i < n) where
 
     pub placed-distinct-addresses : NoneOf (Keyed t n addr words) n → Distinct addr t n → Distinct addr (placed t n i x words body) n
     unfolding u
-    placed-distinct-addresses none d = distinct-filled n i t u else addr (omega arith) d words (placed_address t n i shape here x words body three full) none
+    placed-distinct-addresses none d = distinct_filled n i t u else addr (omega arith) d words (placed_address t n i shape here x words body three full) none
 
     pub placed-distinct-ids : NoneOf (Keyed t n id (x ∷ [])) n → Distinct id t n → Distinct id (placed t n i x words body) n
     unfolding u
-    placed-distinct-ids none d = distinct-filled n i t u else id (omega arith) d (x ∷ []) (placed_id t n i shape here x words body three full) none
+    placed-distinct-ids none d = distinct_filled n i t u else id (omega arith) d (x ∷ []) (placed_id t n i shape here x words body three full) none
 
     -- at a free place: one more is used
     pub placed-count : get_or t i 0 ≡ 0 → used_count (placed t n i x words body) n ≡ used_count t n + 1

@@ -39,16 +39,16 @@ module _ (t : List ℕ) (n i : ℕ) (shape : Shaped t n) (here : i < n) where
 
   -- a time, stored in two words of a body from offset o on
   module _ (o : ℕ) (inside : Within (field Bodies o 2)) (v : Time) where
-    pub time-elsewhere : Elsewhere n i t (put_time t (body_at n i + o) v)
-    time-elsewhere =
+    pub time_elsewhere : Elsewhere n i t (put_time t (body_at n i + o) v)
+    time_elsewhere =
         let e1 = elsewhere_store t n i shape here (field Bodies o 2) inside 0 (body_at n i + o) v.secs (omega arith) (omega arith) in
         let s1 = shaped_kept e1.long shape in
         let t1 = set t (body_at n i + o) v.secs in
         let e2 = elsewhere_store t1 n i s1 here (field Bodies o 2) inside 1 (body_at n i + o + 1) v.nanos (omega arith) (omega arith) in
         elsewhere_trans e1 e2
 
-    pub time-same : SameColumns n t (put_time t (body_at n i + o) v)
-    time-same =
+    pub time_same : SameColumns n t (put_time t (body_at n i + o) v)
+    time_same =
         let t1 = set t (body_at n i + o) v.secs in
         let s1 = shaped_kept (length-set t (body_at n i + o) v.secs) shape in
         let c1 = body_store t n i shape here o 2 inside 0 (body_at n i + o) v.secs (omega arith) (omega arith) in
@@ -57,9 +57,9 @@ module _ (t : List ℕ) (n i : ℕ) (shape : Shaped t n) (here : i < n) where
 
   -- the window
   module _ (win : Window) (full : length win.ring ≡ width) where
-    pub window-elsewhere : Elsewhere n i t (put_window t (window_place n i) win)
+    pub window_elsewhere : Elsewhere n i t (put_window t (window_place n i) win)
     unfolding put_window
-    window-elsewhere = elsewhere_put t n i shape here window (omega arith) (window_place n i) (omega arith) (win.most ∷ win.ring) (omega arith)
+    window_elsewhere = elsewhere_put t n i shape here window (omega arith) (window_place n i) (omega arith) (win.most ∷ win.ring) (omega arith)
 
     pub window_same : SameColumns n t (put_window t (window_place n i) win)
     unfolding put_window

@@ -47,31 +47,31 @@ module _ (t : State) (datagram : ℕ) (addr : Address) (expiry : ℕ) (p : Priva
   abbrev welcome : Met
   welcome = welcomed t.server datagram addr expiry p t.slots t.pending held out
 
-  to-denied : limit ≤ room
+  to_denied : limit ≤ room
       → welcome ≡ beside (dropped t.pending (find_address t.pending t.server.set.pending addr)) (holding held (denied t.server datagram out p.server_to_client_key addr))
   unfolding welcomed pick
-  to-denied h = simp (le-leb limit room h)
+  to_denied h = simp (le-leb limit room h)
 
-  to-challenged : room < limit → welcome ≡ beside t.pending (challenged t.server datagram addr expiry p held out)
+  to_challenged : room < limit → welcome ≡ beside t.pending (challenged t.server datagram addr expiry p held out)
   unfolding welcomed pick
-  to-challenged h = simp (lt-leb limit room h)
+  to_challenged h = simp (lt-leb limit room h)
 
-  to-sent : room < limit → (challenges ≡ 2 ^ 64 - 1 → ⊥) → welcome ≡ beside t.pending (challenge_sent (raised t.server) datagram addr expiry p held out)
+  to_sent : room < limit → (challenges ≡ 2 ^ 64 - 1 → ⊥) → welcome ≡ beside t.pending (challenge_sent (raised t.server) datagram addr expiry p held out)
   unfolding challenged pick
-  to-sent h c = to-challenged h ∙ simp (ne_eqb challenges (2 ^ 64 - 1) c)
+  to_sent h c = to_challenged h ∙ simp (ne_eqb challenges (2 ^ 64 - 1) c)
 
-  denied-15 : limit ≤ room → globally ≡ 2 ^ 64 - 1
+  denied_15 : limit ≤ room → globally ≡ 2 ^ 64 - 1
       → welcome ≡ met (closed t.server (Refused 15)) (dropped t.pending (find_address t.pending t.server.set.pending addr)) held out
   unfolding denied pick
-  denied-15 h c = to-denied h ∙ simp (eq-eqb globally (2 ^ 64 - 1) c)
+  denied_15 h c = to_denied h ∙ simp (eq-eqb globally (2 ^ 64 - 1) c)
 
-  challenged-15 : room < limit → challenges ≡ 2 ^ 64 - 1 → welcome ≡ met (closed t.server (Refused 15)) t.pending held out
+  challenged_15 : room < limit → challenges ≡ 2 ^ 64 - 1 → welcome ≡ met (closed t.server (Refused 15)) t.pending held out
   unfolding challenged pick
-  challenged-15 h c = to-challenged h ∙ simp (eq-eqb challenges (2 ^ 64 - 1) c)
+  challenged_15 h c = to_challenged h ∙ simp (eq-eqb challenges (2 ^ 64 - 1) c)
 
-  sent-15 : room < limit → (challenges ≡ 2 ^ 64 - 1 → ⊥) → globally ≡ 2 ^ 64 - 1 → welcome ≡ met (closed (raised t.server) (Refused 15)) t.pending held out
+  sent_15 : room < limit → (challenges ≡ 2 ^ 64 - 1 → ⊥) → globally ≡ 2 ^ 64 - 1 → welcome ≡ met (closed (raised t.server) (Refused 15)) t.pending held out
   unfolding challenge_sent with_counters pick
-  sent-15 h c g = to-sent h c ∙ simp (eq-eqb globally (2 ^ 64 - 1) g)
+  sent_15 h c g = to_sent h c ∙ simp (eq-eqb globally (2 ^ 64 - 1) g)
 
   -- 15 where the counter is spent
   record Spent (m : Met) : Type 0 where
@@ -82,24 +82,24 @@ module _ (t : State) (datagram : ℕ) (addr : Address) (expiry : ℕ) (p : Priva
 
   spent : (low high : ℕ) → t.server.ask.stage ≡ stage.Token addr expiry low high → GrantSpent t → Spent welcome
   spent low high s (full h c) =
-      subst Spent (sym (denied-15 h c)) (record { answer = refl; left = dropped_15 addr expiry low high s h; held_same = refl; out_same = refl })
-  spent low high s (challenge h c) = subst Spent (sym (challenged-15 h c)) (record { answer = refl; left = challenge_15 h c; held_same = refl; out_same = refl })
-  spent low high s (global h c g) = subst Spent (sym (sent-15 h c g)) (record { answer = refl; left = raised_15 h c; held_same = refl; out_same = refl })
+      subst Spent (sym (denied_15 h c)) (record { answer = refl; left = dropped_15 addr expiry low high s h; held_same = refl; out_same = refl })
+  spent low high s (challenge h c) = subst Spent (sym (challenged_15 h c)) (record { answer = refl; left = challenge_15 h c; held_same = refl; out_same = refl })
+  spent low high s (global h c g) = subst Spent (sym (sent_15 h c g)) (record { answer = refl; left = raised_15 h c; held_same = refl; out_same = refl })
 
   -- and else it is an ask
   data Welcome : Type 0 where
     spends : GrantSpent t → Welcome
     asks : welcome.turn.answer ≡ answer.Ask → Welcome
 
-  by-welcome : Welcome
+  by_welcome : Welcome
   unfolding denied challenge_sent with_counters pick
-  by-welcome =
+  by_welcome =
       by_test (leb limit room)
       (λ b.
       let h : limit ≤ room = leb-true limit room b in
       by_test (eqb globally (2 ^ 64 - 1))
       (λ c. spends (full h (eqb-true globally (2 ^ 64 - 1) c)))
-      (λ c. asks (ap (λ (m : Met). m.turn.answer) (to-denied h) ∙ simp c)))
+      (λ c. asks (ap (λ (m : Met). m.turn.answer) (to_denied h) ∙ simp c)))
       (λ b.
       let h : room < limit = leb-false limit room b in
       by_test (eqb challenges (2 ^ 64 - 1))
@@ -108,7 +108,7 @@ module _ (t : State) (datagram : ℕ) (addr : Address) (expiry : ℕ) (p : Priva
       let n = eqb-false challenges (2 ^ 64 - 1) c in
       by_test (eqb globally (2 ^ 64 - 1))
       (λ g. spends (global h n (eqb-true globally (2 ^ 64 - 1) g)))
-      (λ g. asks (ap (λ (m : Met). m.turn.answer) (to-sent h n) ∙ simp g))))
+      (λ g. asks (ap (λ (m : Met). m.turn.answer) (to_sent h n) ∙ simp g))))
 
 module _ (t : State) (given : Bool) (p : PrivateConnectToken) (list entries public held out : List ℕ) (datagram : ℕ) where
   -- the entries with the token's use
@@ -138,25 +138,25 @@ module _ (t : State) (given : Bool) (p : PrivateConnectToken) (list entries publ
 
   -- ---- the tests
 
-  test-stops : (n : ℕ) → (n ≡ 0 → ⊥) → q ≡ n → r ≡ n
+  test_stops : (n : ℕ) → (n ≡ 0 → ⊥) → q ≡ n → r ≡ n
   unfolding grant_refusal before pick
-  test-stops n z e = simp (e, ne_eqb n 0 z)
+  test_stops n z e = simp (e, ne_eqb n 0 z)
 
-  test-passes : Fits → r ≡ fields_refusal given list
+  test_passes : Fits → r ≡ fields_refusal given list
   unfolding grant_refusal before pick
-  test-passes f = simp (eq-eqb q 0 (open-0 t (all_of t entries public) 2 datagram (length out) f))
+  test_passes f = simp (eq-eqb q 0 (open-0 t (all_of t entries public) 2 datagram (length out) f))
 
-  fields-18 : Fits → given ≡ true → list_unfit list ≡ true → r ≡ 18
+  fields_18 : Fits → given ≡ true → list_unfit list ≡ true → r ≡ 18
   unfolding fields_refusal pick
-  fields-18 f g l = test-passes f ∙ simp (g, l)
+  fields_18 f g l = test_passes f ∙ simp (g, l)
 
-  fields-0 : Fits → given ≡ true → list_unfit list ≡ false → r ≡ 0
+  fields_0 : Fits → given ≡ true → list_unfit list ≡ false → r ≡ 0
   unfolding fields_refusal pick
-  fields-0 f g l = test-passes f ∙ simp (g, l)
+  fields_0 f g l = test_passes f ∙ simp (g, l)
 
   no_fields : Fits → given ≡ false → r ≡ 0
   unfolding fields_refusal pick
-  no_fields f g = test-passes f ∙ simp g
+  no_fields f g = test_passes f ∙ simp g
 
   stopped : (n : ℕ) → (n ≡ 0 → ⊥) → r ≡ n → whole ≡ granted (refuses t n) entries held out
   unfolding grants pick
@@ -173,13 +173,13 @@ module _ (t : State) (given : Bool) (p : PrivateConnectToken) (list entries publ
   unfolding grants pick
   passed e = simp (eq-eqb r 0 e)
 
-  at-no : Fits → given ≡ false → whole ≡ granted (leaves t (closed t.server (Refused 8))) entries held out
+  at_no : Fits → given ≡ false → whole ≡ granted (leaves t (closed t.server (Refused 8))) entries held out
   unfolding pick
-  at-no f g = passed (no_fields f g) ∙ simp g
+  at_no f g = passed (no_fields f g) ∙ simp g
 
-  at-yes : Fits → given ≡ true → list_unfit list ≡ false → (x : Stage) → t.server.ask.stage ≡ x → whole ≡ granted_at t p list entries public held out datagram x
+  at_yes : Fits → given ≡ true → list_unfit list ≡ false → (x : Stage) → t.server.ask.stage ≡ x → whole ≡ granted_at t p list entries public held out datagram x
   unfolding pick
-  at-yes f g l x e = passed (fields-0 f g l) ∙ simp g (ap (granted_at t p list entries public held out datagram) e)
+  at_yes f g l x e = passed (fields_0 f g l) ∙ simp g (ap (granted_at t p list entries public held out datagram) e)
 
   -- ---- a token
 
@@ -187,81 +187,81 @@ module _ (t : State) (given : Bool) (p : PrivateConnectToken) (list entries publ
     abbrev case : Admitted
     case = considered t.server datagram addr expiry low high p t.slots t.pending entries held out
 
-    at-foreign : foreign t.server.set list public ≡ true → whole ≡ granted (leaves t (closed t.server (Refused 13))) entries held out
+    at_foreign : foreign t.server.set list public ≡ true → whole ≡ granted (leaves t (closed t.server (Refused 13))) entries held out
     unfolding granted_at pick
-    at-foreign o = at-yes f g l (stage.Token addr expiry low high) s ∙ simp o
+    at_foreign o = at_yes f g l (stage.Token addr expiry low high) s ∙ simp o
 
-    at-ours : foreign t.server.set list public ≡ false → whole ≡ from_token t case
+    at_ours : foreign t.server.set list public ≡ false → whole ≡ from_token t case
     unfolding granted_at pick
-    at-ours o = at-yes f g l (stage.Token addr expiry low high) s ∙ simp o
+    at_ours o = at_yes f g l (stage.Token addr expiry low high) s ∙ simp o
 
-    at-admitted : foreign t.server.set list public ≡ false → Admits t entries p addr low high
+    at_admitted : foreign t.server.set list public ≡ false → Admits t entries p addr low high
         → whole ≡ from_token t (admitted (welcome t datagram addr expiry p held out) (used addr low high).entries)
     unfolding considered by_entry pick
-    at-admitted o a = at-ours o ∙ simp (a.free, a.place, a.entry)
+    at_admitted o a = at_ours o ∙ simp (a.free, a.place, a.entry)
 
     -- silently nothing
     abbrev silence : List ℕ → Admitted
     silence left = admitted (met (closed t.server answer.Nothing) t.pending held out) left
 
-    at-silence : foreign t.server.set list public ≡ false → (left : List ℕ) → case ≡ silence left → whole.outcome.answer ≡ answer.Nothing
-    at-silence o left e = ap (λ (w : Granted). w.outcome.answer) (at-ours o ∙ ap (from_token t) e)
+    at_silence : foreign t.server.set list public ≡ false → (left : List ℕ) → case ≡ silence left → whole.outcome.answer ≡ answer.Nothing
+    at_silence o left e = ap (λ (w : Granted). w.outcome.answer) (at_ours o ∙ ap (from_token t) e)
 
-    at-connected : is_connected t.server t.slots addr p.client_id ≡ true → case ≡ silence entries
+    at_connected : is_connected t.server t.slots addr p.client_id ≡ true → case ≡ silence entries
     unfolding considered pick
-    at-connected c = simp c
+    at_connected c = simp c
 
-    at-crowded : is_connected t.server t.slots addr p.client_id ≡ false → no_place t.server t.pending addr ≡ true → case ≡ silence entries
+    at_crowded : is_connected t.server t.slots addr p.client_id ≡ false → no_place t.server t.pending addr ≡ true → case ≡ silence entries
     unfolding considered pick
-    at-crowded c n = simp (c, n)
+    at_crowded c n = simp (c, n)
 
-    at-taken : is_connected t.server t.slots addr p.client_id ≡ false → no_place t.server t.pending addr ≡ false → (used addr low high).answer ≡ false
+    at_taken : is_connected t.server t.slots addr p.client_id ≡ false → no_place t.server t.pending addr ≡ false → (used addr low high).answer ≡ false
         → case ≡ silence (used addr low high).entries
     unfolding considered by_entry pick
-    at-taken c n e = simp (c, n, e)
+    at_taken c n e = simp (c, n, e)
 
     -- the entry is the one that the ask's stage says
-    entry-same : (addr2 : Address) (expiry2 low2 high2 : ℕ) → t.server.ask.stage ≡ stage.Token addr2 expiry2 low2 high2
+    entry_same : (addr2 : Address) (expiry2 low2 high2 : ℕ) → t.server.ask.stage ≡ stage.Token addr2 expiry2 low2 high2
         → (used addr low high).entries ≡ (used addr2 low2 high2).entries
-    entry-same addr2 expiry2 low2 high2 e =
+    entry_same addr2 expiry2 low2 high2 e =
         let a : addr ≡ addr2 = cc in
         let b : low ≡ low2 = cc in
         let c : high ≡ high2 = cc in
         rw a (rw b (rw c refl))
 
-    spent-told : foreign t.server.set list public ≡ false → Admits t entries p addr low high → GrantSpent t → Told 15 whole
-    spent-told o a x =
+    spent_told : foreign t.server.set list public ≡ false → Admits t entries p addr low high → GrantSpent t → Told 15 whole
+    spent_told o a x =
         let k = spent t datagram addr expiry p held out low high s x in
-        subst (Told 15) (sym (at-admitted o a))
-        (record { answer = k.answer; left = k.left; kept = λ z. absurd (z refl); added = λ z. entry-same; held_same = k.held_same; out_same = k.out_same })
+        subst (Told 15) (sym (at_admitted o a))
+        (record { answer = k.answer; left = k.left; kept = λ z. absurd (z refl); added = λ z. entry_same; held_same = k.held_same; out_same = k.out_same })
 
-  foreign-told : Fits → given ≡ true → list_unfit list ≡ false → foreign t.server.set list public ≡ true → (x : Stage) → t.server.ask.stage ≡ x → kind_of x ≡ 2
+  foreign_told : Fits → given ≡ true → list_unfit list ≡ false → foreign t.server.set list public ≡ true → (x : Stage) → t.server.ask.stage ≡ x → kind_of x ≡ 2
       → Told 13 whole
   unfolding kind_of
-  foreign-told f g l o stage.Idle s k = absurd (omega arith)
-  foreign-told f g l o (stage.Packet a b c d e) s k = absurd (omega arith)
-  foreign-told f g l o (stage.Token addr expiry low high) s k =
-      subst (Told 13) (sym (at-foreign f g l addr expiry low high s o))
+  foreign_told f g l o stage.Idle s k = absurd (omega arith)
+  foreign_told f g l o (stage.Packet a b c d e) s k = absurd (omega arith)
+  foreign_told f g l o (stage.Token addr expiry low high) s k =
+      subst (Told 13) (sym (at_foreign f g l addr expiry low high s o))
       (record { answer = refl; left = closed_13; kept = λ z. refl; added = λ z. absurd (omega arith); held_same = refl; out_same = refl })
-  foreign-told f g l o (stage.Challenge a b) s k = absurd (omega arith)
-  foreign-told f g l o (stage.Seal a b c) s k = absurd (omega arith)
+  foreign_told f g l o (stage.Challenge a b) s k = absurd (omega arith)
+  foreign_told f g l o (stage.Seal a b c) s k = absurd (omega arith)
 
   -- ---- a line of the table gives its number
 
-  line-told : (n : ℕ) → GrantSays t given p list entries public out datagram n → Told n whole
-  line-told n (grants_17 e) = stops 17 (omega arith) (omega arith) (test-stops 17 (λ z. omega arith) (open-17 t (all_of t entries public) 2 datagram (length out) e))
-  line-told n (grants_23 o z) =
+  line_told : (n : ℕ) → GrantSays t given p list entries public out datagram n → Told n whole
+  line_told n (grants_17 e) = stops 17 (omega arith) (omega arith) (test_stops 17 (λ z. omega arith) (open-17 t (all_of t entries public) 2 datagram (length out) e))
+  line_told n (grants_23 o z) =
       stops 23 (omega arith) (omega arith)
-      (test-stops 23 (λ y. omega arith)
+      (test_stops 23 (λ y. omega arith)
       (open-tables t (all_of t entries public) 2 datagram (length out) o z
       ∙ all-23 t.server.set (length t.slots) (length t.pending) (length entries) (length public) z))
-  line-told n (grants_18 o e f) =
-      stops 18 (omega arith) (omega arith) (test-stops 18 (λ z. omega arith) (open-18 t (all_of t entries public) 2 datagram (length out) o e f))
-  line-told n (grants_18_fields f g l) = stops 18 (omega arith) (omega arith) (fields-18 f g l)
-  line-told n (grants_8 f g) =
-      subst (Told 8) (sym (at-no f g)) (record { answer = refl; left = closed_8; kept = λ z. refl; added = λ z. absurd (omega arith); held_same = refl; out_same = refl })
-  line-told n (grants_13 f g l o) = foreign-told f g l o t.server.ask.stage refl f.fit.wanted
-  line-told n (grants_15 f g l o addr expiry low high s a x) = spent-told f g l addr expiry low high s o a x
+  line_told n (grants_18 o e f) =
+      stops 18 (omega arith) (omega arith) (test_stops 18 (λ z. omega arith) (open-18 t (all_of t entries public) 2 datagram (length out) o e f))
+  line_told n (grants_18_fields f g l) = stops 18 (omega arith) (omega arith) (fields_18 f g l)
+  line_told n (grants_8 f g) =
+      subst (Told 8) (sym (at_no f g)) (record { answer = refl; left = closed_8; kept = λ z. refl; added = λ z. absurd (omega arith); held_same = refl; out_same = refl })
+  line_told n (grants_13 f g l o) = foreign_told f g l o t.server.ask.stage refl f.fit.wanted
+  line_told n (grants_15 f g l o addr expiry low high s a x) = spent_told f g l addr expiry low high s o a x
 
   -- ---- every answer meets a line, or is not refused
 
@@ -274,28 +274,28 @@ module _ (t : State) (given : Bool) (p : PrivateConnectToken) (list entries publ
       by_test (foreign t.server.set list public)
       (λ o. line 13 (grants_13 f g l o))
       (λ o. by_test (is_connected t.server t.slots addr p.client_id)
-      (λ c. silent o entries (at-connected f g l addr expiry low high s c))
+      (λ c. silent o entries (at_connected f g l addr expiry low high s c))
       (λ c. by_test (no_place t.server t.pending addr)
-      (λ n. silent o entries (at-crowded f g l addr expiry low high s c n))
+      (λ n. silent o entries (at_crowded f g l addr expiry low high s c n))
       (λ n. by_test (used addr low high).answer
-      (λ e. welcomes o (record { free = c; place = n; entry = e }) (by-welcome t datagram addr expiry p held out))
-      (λ e. silent o (used addr low high).entries (at-taken f g l addr expiry low high s c n e)))))
+      (λ e. welcomes o (record { free = c; place = n; entry = e }) (by_welcome t datagram addr expiry p held out))
+      (λ e. silent o (used addr low high).entries (at_taken f g l addr expiry low high s c n e)))))
     where
       silent : foreign t.server.set list public ≡ false → (left : List ℕ) → case f g l addr expiry low high s ≡ silence f g l addr expiry low high s left → Verdict
-      silent o left e = none (λ n h. not-nothing (sym (at-silence f g l addr expiry low high s o left e) ∙ h))
+      silent o left e = none (λ n h. not-nothing (sym (at_silence f g l addr expiry low high s o left e) ∙ h))
 
       welcomes : foreign t.server.set list public ≡ false → Admits t entries p addr low high → Welcome t datagram addr expiry p held out → Verdict
       welcomes o a (spends x) = line 15 (grants_15 f g l o addr expiry low high s a x)
       welcomes o a (asks e) =
-          none (λ n h. not_asked (sym (ap (λ (w : Granted). w.outcome.answer) (at-admitted f g l addr expiry low high s o a) ∙ e) ∙ h))
+          none (λ n h. not_asked (sym (ap (λ (w : Granted). w.outcome.answer) (at_admitted f g l addr expiry low high s o a) ∙ e) ∙ h))
 
-  by-stage : Fits → given ≡ true → list_unfit list ≡ false → (x : Stage) → t.server.ask.stage ≡ x → kind_of x ≡ 2 → Verdict
+  by_stage_lem : Fits → given ≡ true → list_unfit list ≡ false → (x : Stage) → t.server.ask.stage ≡ x → kind_of x ≡ 2 → Verdict
   unfolding kind_of
-  by-stage f g l stage.Idle s k = absurd (omega arith)
-  by-stage f g l (stage.Packet a b c d e) s k = absurd (omega arith)
-  by-stage f g l (stage.Token addr expiry low high) s k = by_token f g l addr expiry low high s
-  by-stage f g l (stage.Challenge a b) s k = absurd (omega arith)
-  by-stage f g l (stage.Seal a b c) s k = absurd (omega arith)
+  by_stage_lem f g l stage.Idle s k = absurd (omega arith)
+  by_stage_lem f g l (stage.Packet a b c d e) s k = absurd (omega arith)
+  by_stage_lem f g l (stage.Token addr expiry low high) s k = by_token f g l addr expiry low high s
+  by_stage_lem f g l (stage.Challenge a b) s k = absurd (omega arith)
+  by_stage_lem f g l (stage.Seal a b c) s k = absurd (omega arith)
 
   verdict : Verdict
   verdict =
@@ -306,11 +306,11 @@ module _ (t : State) (given : Bool) (p : PrivateConnectToken) (list entries publ
       (λ f. by_test given
       (λ g. by_test (list_unfit list)
       (λ l. line 18 (grants_18_fields f g l))
-      (λ l. by-stage f g l t.server.ask.stage refl f.fit.wanted))
+      (λ l. by_stage_lem f g l t.server.ask.stage refl f.fit.wanted))
       (λ g. line 8 (grants_8 f g)))
 
   settle : (n : ℕ) → Verdict → whole.outcome.answer ≡ Refused n → GrantSays t given p list entries public out datagram n
-  settle n (line m s) e = subst (GrantSays t given p list entries public out datagram) (same_refusal (sym (line-told m s).answer ∙ e)) s
+  settle n (line m s) e = subst (GrantSays t given p list entries public out datagram) (same_refusal (sym (line_told m s).answer ∙ e)) s
   settle n (none f) e = absurd (f n e)
 
 -- the answer refuses by n exactly when the table says n
@@ -318,7 +318,7 @@ pub grants_exactly : (t : State) (given : Bool) (p : PrivateConnectToken) (list 
     → ((grants t given p list entries public held out datagram).outcome.answer ≡ Refused n) ↔ GrantSays t given p list entries public out datagram n
 grants_exactly t given p list entries public held out datagram n = (
   settle t given p list entries public held out datagram n (verdict t given p list entries public held out datagram),
-  λ s. (line-told t given p list entries public held out datagram n s).answer,
+  λ s. (line_told t given p list entries public held out datagram n s).answer,
 )
 
 -- and it then leaves what the number's line says, with held bytes and output as they were; 15 alone comes after the entry was added
@@ -332,6 +332,6 @@ pub grants_leave : (t : State) (given : Bool) (p : PrivateConnectToken) (list en
     → (grants t given p list entries public held out datagram).entries
     ≡ (entry.addEntry entries t.server.set.entries (use_of t.server.current_time addr low high)).entries)
 grants_leave t given p list entries public held out datagram n e =
-    let k = line-told t given p list entries public held out datagram n
+    let k = line_told t given p list entries public held out datagram n
     (settle t given p list entries public held out datagram n (verdict t given p list entries public held out datagram) e) in
     (k.left, k.held_same, k.out_same, k.kept, k.added)

@@ -76,13 +76,13 @@ module _ (kind : PacketType) (start : ℕ) (d : List ℕ) (inside : start + 16 �
   body_length_lem : length (part d start (length d - 16 - start)) ≡ length d - 16 - start
   body_length_lem = length_part d start (length d - 16 - start) (omega arith)
 
-  body-short : length d - 16 - start < least kind → body_in kind start d ≡ Short
+  body_short : length d - 16 - start < least kind → body_in kind start d ≡ Short
   unfolding read_body pick
-  body-short h = simp (lt-ltb (length (part d start (length d - 16 - start))) (least kind) (rw body_length_lem h))
+  body_short h = simp (lt-ltb (length (part d start (length d - 16 - start))) (least kind) (rw body_length_lem h))
 
-  body-whole : ltb (length d - 16 - start) (least kind) ≡ false → body_in kind start d ≡ Whole (numbers kind (part d start (length d - 16 - start)))
+  body_whole : ltb (length d - 16 - start) (least kind) ≡ false → body_in kind start d ≡ Whole (numbers kind (part d start (length d - 16 - start)))
   unfolding read_body pick
-  body-whole h = simp (ap (λ (x : ℕ). ltb x (least kind)) body_length_lem ∙ h)
+  body_whole h = simp (ap (λ (x : ℕ). ltb x (least kind)) body_length_lem ∙ h)
 
 module _ (t : State) (granted : Bool) (held out d : List ℕ) where
   -- refused by a number, which leaves what its line says; held bytes and output as they were
@@ -105,21 +105,21 @@ module _ (t : State) (granted : Bool) (held out d : List ℕ) where
   stops : (n : ℕ) → 17 ≤ n → n ≤ 23 → q ≡ n → Told n (opens t granted held out d)
   stops n a b e = subst (Told n) (sym (stopped n (λ z. omega arith) e)) (record { answer = refl; left = nothing n a b; held_same = refl; out_same = refl })
 
-  at-no : Fits → granted ≡ false → opens t granted held out d ≡ written (leaves t (closed t.server (Refused 8))) held out
+  at_no : Fits → granted ≡ false → opens t granted held out d ≡ written (leaves t (closed t.server (Refused 8))) held out
   unfolding opens pick
-  at-no f g = simp (eq-eqb q 0 (open-0 t (both_of t) 1 (length d) (length out) f), g)
+  at_no f g = simp (eq-eqb q 0 (open-0 t (both_of t) 1 (length d) (length out) f), g)
 
-  at-yes : Fits → granted ≡ true → (x : Stage) → t.server.ask.stage ≡ x → opens t granted held out d ≡ opened t held out d x
+  at_yes : Fits → granted ≡ true → (x : Stage) → t.server.ask.stage ≡ x → opens t granted held out d ≡ opened t held out d x
   unfolding opens pick
-  at-yes f g x e = simp (eq-eqb q 0 (open-0 t (both_of t) 1 (length d) (length out) f), g) (ap (opened t held out d) e)
+  at_yes f g x e = simp (eq-eqb q 0 (open-0 t (both_of t) 1 (length d) (length out) f), g) (ap (opened t held out d) e)
 
   -- ---- a packet
 
-  at-packet : Fits → granted ≡ true → (connected : Bool) (place : ℕ) (kind : PacketType) (sequence start : ℕ)
+  at_packet : Fits → granted ≡ true → (connected : Bool) (place : ℕ) (kind : PacketType) (sequence start : ℕ)
       → t.server.ask.stage ≡ stage.Packet connected place kind sequence start
       → opens t granted held out d ≡ written (packet_opened t connected place kind sequence start (length out) d) held out
   unfolding opened
-  at-packet f g connected place kind sequence start e = at-yes f g (stage.Packet connected place kind sequence start) e
+  at_packet f g connected place kind sequence start e = at_yes f g (stage.Packet connected place kind sequence start) e
 
   inside : Fits → (connected : Bool) (place : ℕ) (kind : PacketType) (sequence start : ℕ)
       → t.server.ask.stage ≡ stage.Packet connected place kind sequence start → start + 16 ≤ length d
@@ -154,10 +154,10 @@ module _ (t : State) (granted : Bool) (held out d : List ℕ) where
 
   -- ---- a challenge
 
-  at-challenge : Fits → granted ≡ true → (j start : ℕ) → t.server.ask.stage ≡ stage.Challenge j start
+  at_challenge : Fits → granted ≡ true → (j start : ℕ) → t.server.ask.stage ≡ stage.Challenge j start
       → opens t granted held out d ≡ from_response t j (responded t.server t.slots t.pending held out j start d)
   unfolding opened
-  at-challenge f g j start e = at-yes f g (stage.Challenge j start) e
+  at_challenge f g j start e = at_yes f g (stage.Challenge j start) e
 
   module _ (j start : ℕ) where
     abbrev response : Prepared
@@ -172,32 +172,32 @@ module _ (t : State) (granted : Bool) (held out d : List ℕ) where
     abbrev free : Found
     free = find_free t.slots t.server.set.slots
 
-    to-id : (x : Found) → has_id ≡ x → response ≡ by_id t.server (length d) t.slots rest held out j (token_at d start) x
+    to_id : (x : Found) → has_id ≡ x → response ≡ by_id t.server (length d) t.slots rest held out j (token_at d start) x
     unfolding responded
-    to-id x e = ap (by_id t.server (length d) t.slots rest held out j (token_at d start)) e
+    to_id x e = ap (by_id t.server (length d) t.slots rest held out j (token_at d start)) e
 
     to_free : has_id ≡ Nothing → (x : Found) → free ≡ x → response ≡ by_free t.server (length d) rest held out j (token_at d start) x
     unfolding by_id
-    to_free e x f = to-id Nothing e ∙ ap (by_free t.server (length d) rest held out j (token_at d start)) f
+    to_free e x f = to_id Nothing e ∙ ap (by_free t.server (length d) rest held out j (token_at d start)) f
 
-    to-slot : has_id ≡ Nothing → (i : ℕ) → free ≡ At i
+    to_slot : has_id ≡ Nothing → (i : ℕ) → free ≡ At i
         → response ≡ connecting t.server (length d) held out j i (send_key_of t.server rest j) (counter_of t.server rest j) (token_at d start)
     unfolding by_free
-    to-slot e i f = to_free e (At i) f
+    to_slot e i f = to_free e (At i) f
 
-    to-denied : has_id ≡ Nothing → free ≡ Nothing
+    to_denied : has_id ≡ Nothing → free ≡ Nothing
         → response ≡ holding held (denied t.server (length d) out (send_key_of t.server rest j) (address_of rest t.server.set.pending j))
     unfolding by_free
-    to-denied e f = to_free e Nothing f
+    to_denied e f = to_free e Nothing f
 
     -- 15 where the counter is spent
     spent : has_id ≡ Nothing → ResponseSpent t j → response ≡ prepared (closed t.server (Refused 15)) held out
     unfolding connecting denied pick
-    spent e (own i f c) = to-slot e i f ∙ simp (eq-eqb (counter_of t.server rest j) (2 ^ 64 - 1) c)
-    spent e (global f c) = to-denied e f ∙ simp (eq-eqb t.server.counters.global_sequence (2 ^ 64 - 1) c)
+    spent e (own i f c) = to_slot e i f ∙ simp (eq-eqb (counter_of t.server rest j) (2 ^ 64 - 1) c)
+    spent e (global f c) = to_denied e f ∙ simp (eq-eqb t.server.counters.global_sequence (2 ^ 64 - 1) c)
 
-    spent-told : t.server.ask.stage ≡ stage.Challenge j start → has_id ≡ Nothing → ResponseSpent t j → Told 15 (from_response t j response)
-    spent-told s e r =
+    spent_told : t.server.ask.stage ≡ stage.Challenge j start → has_id ≡ Nothing → ResponseSpent t j → Told 15 (from_response t j response)
+    spent_told s e r =
         subst (λ (x : Prepared). Told 15 (from_response t j x)) (sym (spent e r)) (record { answer = refl; left = emptied_15 j start s; held_same = refl; out_same = refl })
 
     -- and else it is not refused
@@ -205,26 +205,26 @@ module _ (t : State) (granted : Bool) (held out d : List ℕ) where
       spends : has_id ≡ Nothing → ResponseSpent t j → Response
       goes : ((n : ℕ) → response.turn.answer ≡ Refused n → ⊥) → Response
 
-    free-goes : has_id ≡ Nothing → (x : Found) → free ≡ x → Response
+    free_goes : has_id ≡ Nothing → (x : Found) → free ≡ x → Response
     unfolding connecting denied pick
-    free-goes e (At i) f =
+    free_goes e (At i) f =
         by_test (eqb (counter_of t.server rest j) (2 ^ 64 - 1))
         (λ c. spends e (own i f (eqb-true (counter_of t.server rest j) (2 ^ 64 - 1) c)))
         (λ c. goes (λ n h.
-        let x : response.turn.answer ≡ Ask = ap (λ (y : Prepared). y.turn.answer) (to-slot e i f) ∙ simp c in
+        let x : response.turn.answer ≡ Ask = ap (λ (y : Prepared). y.turn.answer) (to_slot e i f) ∙ simp c in
         not_asked (sym x ∙ h)))
-    free-goes e Nothing f =
+    free_goes e Nothing f =
         by_test (eqb t.server.counters.global_sequence (2 ^ 64 - 1))
         (λ c. spends e (global f (eqb-true t.server.counters.global_sequence (2 ^ 64 - 1) c)))
         (λ c. goes (λ n h.
-        let x : response.turn.answer ≡ Ask = ap (λ (y : Prepared). y.turn.answer) (to-denied e f) ∙ simp c in
+        let x : response.turn.answer ≡ Ask = ap (λ (y : Prepared). y.turn.answer) (to_denied e f) ∙ simp c in
         not_asked (sym x ∙ h)))
 
-    id-goes : (x : Found) → has_id ≡ x → Response
+    id_goes : (x : Found) → has_id ≡ x → Response
     unfolding by_id
-    id-goes (At k) e =
-        goes (λ n h. not-nothing (sym (ap (λ (y : Prepared). y.turn.answer) (to-id (At k) e)) ∙ h))
-    id-goes Nothing e = free-goes e free refl
+    id_goes (At k) e =
+        goes (λ n h. not-nothing (sym (ap (λ (y : Prepared). y.turn.answer) (to_id (At k) e)) ∙ h))
+    id_goes Nothing e = free_goes e free refl
 
   -- ---- a line of the table gives its number
 
@@ -234,11 +234,11 @@ module _ (t : State) (granted : Bool) (held out d : List ℕ) where
       stops 23 (omega arith) (omega arith)
       (open-tables t (both_of t) 1 (length d) (length out) o z ∙ both-23 t.server.set (length t.slots) (length t.pending) z)
   given n (opens_18 o e f) = stops 18 (omega arith) (omega arith) (open-18 t (both_of t) 1 (length d) (length out) o e f)
-  given n (opens_8 f g) = subst (Told 8) (sym (at-no f g)) (record { answer = refl; left = closed_8; held_same = refl; out_same = refl })
+  given n (opens_8 f g) = subst (Told 8) (sym (at_no f g)) (record { answer = refl; left = closed_8; held_same = refl; out_same = refl })
   given n (opens_9 f g connected place kind sequence start s h) =
-      subst (Told 9) (sym (at-packet f g connected place kind sequence start s))
-      (short connected place kind sequence start s (body-short kind start d (inside f connected place kind sequence start s) h))
-  given n (opens_15 f g j start s e r) = subst (Told 15) (sym (at-challenge f g j start s)) (spent-told j start s e r)
+      subst (Told 9) (sym (at_packet f g connected place kind sequence start s))
+      (short connected place kind sequence start s (body_short kind start d (inside f connected place kind sequence start s) h))
+  given n (opens_15 f g j start s e r) = subst (Told 15) (sym (at_challenge f g j start s)) (spent_told j start s e r)
 
   -- ---- every answer meets a line, or is not refused
 
@@ -246,24 +246,24 @@ module _ (t : State) (granted : Bool) (held out d : List ℕ) where
     line : (n : ℕ) → OpenSays t granted out d n → Verdict
     none : ((n : ℕ) → (opens t granted held out d).outcome.answer ≡ Refused n → ⊥) → Verdict
 
-  by-response : Fits → granted ≡ true → (j start : ℕ) → t.server.ask.stage ≡ stage.Challenge j start → Response j start → Verdict
-  by-response f g j start s (spends e r) = line 15 (opens_15 f g j start s e r)
-  by-response f g j start s (goes x) = none (λ n h. x n (sym (ap (λ (w : Written). w.outcome.answer) (at-challenge f g j start s)) ∙ h))
+  by_response : Fits → granted ≡ true → (j start : ℕ) → t.server.ask.stage ≡ stage.Challenge j start → Response j start → Verdict
+  by_response f g j start s (spends e r) = line 15 (opens_15 f g j start s e r)
+  by_response f g j start s (goes x) = none (λ n h. x n (sym (ap (λ (w : Written). w.outcome.answer) (at_challenge f g j start s)) ∙ h))
 
-  by-stage : Fits → granted ≡ true → (x : Stage) → t.server.ask.stage ≡ x → kind_of x ≡ 1 → Verdict
+  by_stage_lem : Fits → granted ≡ true → (x : Stage) → t.server.ask.stage ≡ x → kind_of x ≡ 1 → Verdict
   unfolding kind_of
-  by-stage f g stage.Idle s k = absurd (omega arith)
-  by-stage f g (stage.Packet connected place kind sequence start) s k =
+  by_stage_lem f g stage.Idle s k = absurd (omega arith)
+  by_stage_lem f g (stage.Packet connected place kind sequence start) s k =
       let l = inside f connected place kind sequence start s in
       by_test (ltb (length d - 16 - start) (least kind))
       (λ b. line 9 (opens_9 f g connected place kind sequence start s (ltb-true (length d - 16 - start) (least kind) b)))
       (λ b. none (λ n h.
-      whole connected place kind sequence start _ (body-whole kind start d l b) n
-      (sym (ap (λ (w : Written). w.outcome.answer) (at-packet f g connected place kind sequence start s)) ∙ h)))
-  by-stage f g (stage.Token a b c e) s k = absurd (omega arith)
-  by-stage f g (stage.Challenge j start) s k =
-      by-response f g j start s (id-goes j start (find_id t.slots t.server.set.slots (token_at d start).client_id) refl)
-  by-stage f g (stage.Seal a b c) s k = absurd (omega arith)
+      whole connected place kind sequence start _ (body_whole kind start d l b) n
+      (sym (ap (λ (w : Written). w.outcome.answer) (at_packet f g connected place kind sequence start s)) ∙ h)))
+  by_stage_lem f g (stage.Token a b c e) s k = absurd (omega arith)
+  by_stage_lem f g (stage.Challenge j start) s k =
+      by_response f g j start s (id_goes j start (find_id t.slots t.server.set.slots (token_at d start).client_id) refl)
+  by_stage_lem f g (stage.Seal a b c) s k = absurd (omega arith)
 
   verdict : Verdict
   verdict =
@@ -271,7 +271,7 @@ module _ (t : State) (granted : Bool) (held out d : List ℕ) where
       (λ e. line 17 (opens_17 e))
       (λ o z. line 23 (opens_23 o z))
       (λ o e f. line 18 (opens_18 o e f))
-      (λ f. by_test granted (λ g. by-stage f g t.server.ask.stage refl f.fit.wanted) (λ g. line 8 (opens_8 f g)))
+      (λ f. by_test granted (λ g. by_stage_lem f g t.server.ask.stage refl f.fit.wanted) (λ g. line 8 (opens_8 f g)))
 
   settle : (n : ℕ) → Verdict → (opens t granted held out d).outcome.answer ≡ Refused n → OpenSays t granted out d n
   settle n (line m s) e = subst (OpenSays t granted out d) (same_refusal (sym (given m s).answer ∙ e)) s

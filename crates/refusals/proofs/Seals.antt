@@ -49,20 +49,20 @@ module _ (t : State) (granted : Bool) (held : List ℕ) (out : ℕ) where
   no (goal.Sending i) n = refl
   no (goal.Ending id addr) n = absurd (n id addr refl)
 
-  at-seal : (x : Goal) (sequence end : ℕ) → seal_refusal t out ≡ 0 → t.server.ask.stage ≡ stage.Seal x sequence end
+  at_seal : (x : Goal) (sequence end : ℕ) → seal_refusal t out ≡ 0 → t.server.ask.stage ≡ stage.Seal x sequence end
       → seals t granted held out ≡ pick granted (sealed t held out sequence end x) (leaves t (unsealed t.server x))
   unfolding by_stage
-  at-seal x sequence end e s = passes e ∙ ap (by_stage t granted held out) s
+  at_seal x sequence end e s = passes e ∙ ap (by_stage t granted held out) s
 
-  at-yes : granted ≡ true → (x : Goal) (sequence end : ℕ) → seal_refusal t out ≡ 0 → t.server.ask.stage ≡ stage.Seal x sequence end
+  at_yes : granted ≡ true → (x : Goal) (sequence end : ℕ) → seal_refusal t out ≡ 0 → t.server.ask.stage ≡ stage.Seal x sequence end
       → seals t granted held out ≡ sealed t held out sequence end x
   unfolding pick
-  at-yes g x sequence end e s = at-seal x sequence end e s ∙ simp g
+  at_yes g x sequence end e s = at_seal x sequence end e s ∙ simp g
 
-  at-no : granted ≡ false → (x : Goal) (sequence end : ℕ) → seal_refusal t out ≡ 0 → t.server.ask.stage ≡ stage.Seal x sequence end
+  at_no : granted ≡ false → (x : Goal) (sequence end : ℕ) → seal_refusal t out ≡ 0 → t.server.ask.stage ≡ stage.Seal x sequence end
       → seals t granted held out ≡ leaves t (unsealed t.server x)
   unfolding pick
-  at-no g x sequence end e s = at-seal x sequence end e s ∙ simp g
+  at_no g x sequence end e s = at_seal x sequence end e s ∙ simp g
 
   -- a line of the table gives its number
   given : (n : ℕ) → SealSays t granted out n → Told n (seals t granted held out)
@@ -72,7 +72,7 @@ module _ (t : State) (granted : Bool) (held : List ℕ) (out : ℕ) where
       (tables-said t (both_of t) 3 t.server.ask.datagram out o z ∙ both-23 t.server.set (length t.slots) (length t.pending) z)
   given n (seals_18 o e f) = stops 18 (omega arith) (omega arith) (no-fit-18 t (both_of t) 3 t.server.ask.datagram out o e f)
   given n (seals_24 o e f g x sequence end s d) =
-      subst (Told 24) (sym (at-no g x sequence end (fit-0 t (both_of t) 3 t.server.ask.datagram out o e f) s ∙ ap (leaves t) (no x d)))
+      subst (Told 24) (sym (at_no g x sequence end (fit-0 t (both_of t) 3 t.server.ask.datagram out o e f) s ∙ ap (leaves t) (no x d)))
       (record { answer = refl; left = closed_24 })
 
   -- every answer meets a line, or is not refused
@@ -81,14 +81,14 @@ module _ (t : State) (granted : Bool) (held : List ℕ) (out : ℕ) where
     none : ((n : ℕ) → (seals t granted held out).answer ≡ Refused n → ⊥) → Verdict
 
   -- a yes is never refused
-  yes-taken : (x : Goal) (sequence end n : ℕ) → (sealed t held out sequence end x).answer ≡ Refused n → ⊥
+  yes_taken : (x : Goal) (sequence end n : ℕ) → (sealed t held out sequence end x).answer ≡ Refused n → ⊥
   unfolding sealed packet_asked connects sends
-  yes-taken (goal.Denied addr) sequence end n e = let z : ◌≡◌ {A = ℕ} 0 1 = cc in omega arith
-  yes-taken (goal.ChallengeToken addr) sequence end n e = let z : ◌≡◌ {A = ℕ} 0 1 = cc in omega arith
-  yes-taken (goal.ChallengePacket addr) sequence end n e = let z : ◌≡◌ {A = ℕ} 0 1 = cc in omega arith
-  yes-taken (goal.Connecting j i) sequence end n e = let z : ◌≡◌ {A = ℕ} 0 1 = cc in omega arith
-  yes-taken (goal.Sending i) sequence end n e = let z : ◌≡◌ {A = ℕ} 0 1 = cc in omega arith
-  yes-taken (goal.Ending id addr) sequence end n e = let z : ◌≡◌ {A = ℕ} 0 1 = cc in omega arith
+  yes_taken (goal.Denied addr) sequence end n e = let z : ◌≡◌ {A = ℕ} 0 1 = cc in omega arith
+  yes_taken (goal.ChallengeToken addr) sequence end n e = let z : ◌≡◌ {A = ℕ} 0 1 = cc in omega arith
+  yes_taken (goal.ChallengePacket addr) sequence end n e = let z : ◌≡◌ {A = ℕ} 0 1 = cc in omega arith
+  yes_taken (goal.Connecting j i) sequence end n e = let z : ◌≡◌ {A = ℕ} 0 1 = cc in omega arith
+  yes_taken (goal.Sending i) sequence end n e = let z : ◌≡◌ {A = ℕ} 0 1 = cc in omega arith
+  yes_taken (goal.Ending id addr) sequence end n e = let z : ◌≡◌ {A = ℕ} 0 1 = cc in omega arith
 
   module _ (o : Open t) (tabled : both_of t ≡ 0) (fit : Fit t 3 t.server.ask.datagram out) where
     pass : seal_refusal t out ≡ 0
@@ -107,19 +107,19 @@ module _ (t : State) (granted : Bool) (held : List ℕ) (out : ℕ) where
     denied g (goal.Sending i) sequence end s = said g (goal.Sending i) sequence end s (λ k a e. let z : ◌≡◌ {A = ℕ} 0 1 = cc in omega arith)
     denied g (goal.Ending id addr) sequence end s =
         none (λ n e.
-        let x = at-no g (goal.Ending id addr) sequence end pass s in
+        let x = at_no g (goal.Ending id addr) sequence end pass s in
         let y = sym (ap (λ (u : Outcome). u.answer) x) ∙ e in
         let z : ◌≡◌ {A = ℕ} 0 1 = cc in omega arith)
 
-    by-stage : (x : Stage) → t.server.ask.stage ≡ x → kind_of x ≡ 3 → Verdict
+    by_stage_lem : (x : Stage) → t.server.ask.stage ≡ x → kind_of x ≡ 3 → Verdict
     unfolding kind_of
-    by-stage stage.Idle s k = absurd (omega arith)
-    by-stage (stage.Packet a b c d e) s k = absurd (omega arith)
-    by-stage (stage.Token a b c d) s k = absurd (omega arith)
-    by-stage (stage.Challenge a b) s k = absurd (omega arith)
-    by-stage (stage.Seal x sequence end) s k =
+    by_stage_lem stage.Idle s k = absurd (omega arith)
+    by_stage_lem (stage.Packet a b c d e) s k = absurd (omega arith)
+    by_stage_lem (stage.Token a b c d) s k = absurd (omega arith)
+    by_stage_lem (stage.Challenge a b) s k = absurd (omega arith)
+    by_stage_lem (stage.Seal x sequence end) s k =
         by_test granted
-        (λ g. none (λ n e. yes-taken x sequence end n (sym (ap (λ (u : Outcome). u.answer) (at-yes g x sequence end pass s)) ∙ e)))
+        (λ g. none (λ n e. yes_taken x sequence end n (sym (ap (λ (u : Outcome). u.answer) (at_yes g x sequence end pass s)) ∙ e)))
         (λ g. denied g x sequence end s)
 
   verdict : Verdict
@@ -128,7 +128,7 @@ module _ (t : State) (granted : Bool) (held : List ℕ) (out : ℕ) where
       (λ e. line 17 (seals_17 e))
       (λ o z. line 23 (seals_23 o z))
       (λ o e f. line 18 (seals_18 o e f))
-      (λ o e f. by-stage o e f t.server.ask.stage refl f.wanted)
+      (λ o e f. by_stage_lem o e f t.server.ask.stage refl f.wanted)
 
   settle : (n : ℕ) → Verdict → (seals t granted held out).answer ≡ Refused n → SealSays t granted out n
   settle n (line m s) e = subst (SealSays t granted out) (same_refusal (sym (given m s).answer ∙ e)) s

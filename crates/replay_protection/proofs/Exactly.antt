@@ -36,9 +36,9 @@ five_exactly w win s = (λ e. by_contra (2 ^ 64) (s + w) (λ l. below (refuses w
     below false e = omega arith
 
 module _ {w : ℕ} (pos : 0 < w) {acc : List ℕ} {win : Window} (sound : Sound w acc win) (s : ℕ) where
-  not-both : Past w acc s → New w acc s → ⊥
-  not-both (inl m) n = n.0 m
-  not-both (inr h) n = omega arith
+  not_both : Past w acc s → New w acc s → ⊥
+  not_both (inl m) n = n.0 m
+  not_both (inr h) n = omega arith
 
   -- what is new, and below 2^64 - w, is accepted, and nothing else
   pub accepted_exactly : (accepts w win s ≡ true) ↔ ((s + w < 2 ^ 64) × New w acc s)
@@ -46,7 +46,7 @@ module _ {w : ℕ} (pos : 0 < w) {acc : List ℕ} {win : Window} (sound : Sound 
   accepted_exactly = (λ e. let q = accepts_true w win s e in (q.0, passed pos sound s q.1), λ p. rw (refusal_below w win.most (placed w win s) s p.0) (go p.1 (refuses w win s) refl))
     where
       go : New w acc s → (b : Bool) → refuses w win s ≡ b → eqb (pick b 6 0) 0 ≡ true
-      go n true e = absurd (not-both (refused pos sound s e) n)
+      go n true e = absurd (not_both (refused pos sound s e) n)
       go n false e = refl
 
   -- 6 is for what was accepted before, or whose sum with w is at most the highest, and for nothing else
@@ -56,7 +56,7 @@ module _ {w : ℕ} (pos : 0 < w) {acc : List ℕ} {win : Window} (sound : Sound 
     where
       go : (b : Bool) → refuses w win s ≡ b → (pick {A = ℕ} b 6 0 ≡ 6) ↔ Past w acc s
       go true e = (λ q. refused pos sound s e, λ o. refl)
-      go false e = (λ q. absurd (omega arith), λ o. absurd (not-both o (passed pos sound s e)))
+      go false e = (λ q. absurd (omega arith), λ o. absurd (not_both o (passed pos sound s e)))
 
   -- an arrival keeps a window sound
   pub sound_arrive : Sound w (pick (accepts w win s) (s ∷ acc) acc) (arrive w win s)

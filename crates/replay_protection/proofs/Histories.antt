@@ -93,9 +93,9 @@ module _ (w : ℕ) (pos : 0 < w) where
       go false n = n
 
   -- what arrives less than w behind the highest is among the accepted from then on
-  accepted-near : (before : List ℕ) (s : ℕ) → s + w < 2 ^ 64 → highest (accepted w before) < s + w → Member s (accepted w (s ∷ before))
+  accepted_near : (before : List ℕ) (s : ℕ) → s + w < 2 ^ 64 → highest (accepted w before) < s + w → Member s (accepted w (s ∷ before))
   unfolding accepted pick
-  accepted-near before s h near = go (dec_member s (accepted w before))
+  accepted_near before s h near = go (dec_member s (accepted w before))
     where
       go : Dec (Member s (accepted w before)) → Member s (accepted w (s ∷ before))
       go (yes m) = accepted_stays (s ∷ []) before s m
@@ -103,7 +103,7 @@ module _ (w : ℕ) (pos : 0 < w) where
 
   -- so what arrives in time is accepted, whatever else arrives
   pub in_time_accepted : (arrivals : List ℕ) (s : ℕ) → InTime w arrivals s → Member s (accepted w arrivals)
-  in_time_accepted arrivals s i = rw i.split (accepted_stays i.later (s ∷ i.before) s (accepted-near i.before s i.below i.near))
+  in_time_accepted arrivals s i = rw i.split (accepted_stays i.later (s ∷ i.before) s (accepted_near i.before s i.below i.near))
 
   module _ (arrivals sent : List ℕ) (only : (t : ℕ) → Member t arrivals → Member t sent) (each : (t : ℕ) → Member t sent → InTime w arrivals t) where
     -- if only what was sent arrives, and each of it in time, then just what was sent is accepted
@@ -111,8 +111,8 @@ module _ (w : ℕ) (pos : 0 < w) where
     complete t = (λ m. only t (accepted_arrived arrivals t m), λ m. in_time_accepted arrivals t (each t m))
 
     -- and once each: where nothing was sent twice, the accepted are the sent in some order
-    pub complete-once : Nodup sent → Perm (accepted w arrivals) sent
-    complete-once d = (perm_ext_iff_of_Nodup (accepted_once arrivals) d).1 (λ t. (λ m. ∥∥₁_map m (complete t).0, λ m. ∥∥₁_map m (complete t).1))
+    pub complete_once : Nodup sent → Perm (accepted w arrivals) sent
+    complete_once d = (perm_ext_iff_of_Nodup (accepted_once arrivals) d).1 (λ t. (λ m. ∥∥₁_map m (complete t).0, λ m. ∥∥₁_map m (complete t).1))
 
   -- ---- 4. the order does not matter
 

@@ -99,17 +99,17 @@ module _ {w : ℕ} (pos : 0 < w) {acc : List ℕ} {win : Window} (sound : Sound 
   pub refused : refuses w win s ≡ true → Past w acc s
   refused e = ⊎_elim (λ (a : s + w ≤ win.most). inr (omega (arith, sound.most))) (λ p. held p.0 p.1 here) (test_true w win s e)
     where
-      near-or-old : {v : ℕ} → Member v acc → v % w ≡ s % w → s ≤ v → Dec (s + w ≤ highest acc) → Past w acc s
-      near-or-old m q k (yes h) = inr h
-      near-or-old {v} m q k (no h) = inl (cast (near w s v k (omega (arith, le_highest acc v m)) (sym q)) m)
+      near_or_old : {v : ℕ} → Member v acc → v % w ≡ s % w → s ≤ v → Dec (s + w ≤ highest acc) → Past w acc s
+      near_or_old m q k (yes h) = inr h
+      near_or_old {v} m q k (no h) = inl (cast (near w s v k (omega (arith, le_highest acc v m)) (sym q)) m)
 
       held : {v : ℕ} → v ≢ EMPTY → s ≤ v → Holds w acc (s % w) v → Past w acc s
       held n k (none q f) = absurd (n q)
-      held n k (largest m q f) = near-or-old m q k (dec_le (s + w) (highest acc))
+      held n k (largest m q f) = near_or_old m q k (dec_le (s + w) (highest acc))
 
   -- what it lets pass is larger than all accepted sequences of its place
-  passed-place : refuses w win s ≡ false → (t : ℕ) → Member t acc → t % w ≡ s % w → t < s
-  passed-place e t m q = above here (test_false w win s e).1
+  passed_place : refuses w win s ≡ false → (t : ℕ) → Member t acc → t % w ≡ s % w → t < s
+  passed_place e t m q = above here (test_false w win s e).1
     where
       above : {v : ℕ} → Holds w acc (s % w) v → (v ≡ EMPTY) ⊎ (v < s) → t < s
       above (none i f) o = absurd (f t m q)
@@ -118,7 +118,7 @@ module _ {w : ℕ} (pos : 0 < w) {acc : List ℕ} {win : Window} (sound : Sound 
 
   -- and so it is new
   pub passed : refuses w win s ≡ false → New w acc s
-  passed e = (λ m. let l : s < s = passed-place e s m refl in omega arith, omega (arith, (test_false w win s e).0, sound.most))
+  passed e = (λ m. let l : s < s = passed_place e s m refl in omega arith, omega (arith, (test_false w win s e).0, sound.most))
 
   -- the invariant is kept by an acceptance
   pub sound_advance : s + w < 2 ^ 64 → refuses w win s ≡ false → Sound w (s ∷ acc) (advance w win s)
@@ -131,8 +131,8 @@ module _ {w : ℕ} (pos : 0 < w) {acc : List ℕ} {win : Window} (sound : Sound 
     once = Nodup-cons.1 (λ m. ∥∥₁_elim m ⊥_prop (passed e).0, sound.once);
   }
     where
-      largest-here : (t : ℕ) → Member t (s ∷ acc) → t % w ≡ s % w → t ≤ s
-      largest-here t m q = ⊎_elim (λ i. omega arith) (λ n. let l : t < s = passed-place e t n q in omega arith) (cases_cons m)
+      largest_here : (t : ℕ) → Member t (s ∷ acc) → t % w ≡ s % w → t ≤ s
+      largest_here t m q = ⊎_elim (λ i. omega arith) (λ n. let l : t < s = passed_place e t n q in omega arith) (cases_cons m)
 
       other : (r v : ℕ) → r ≢ s % w → Holds w acc r v → Holds w (s ∷ acc) r v
       other r v n (none q f) = none q (λ t m i. ⊎_elim (λ j. n (sym i ∙ ap (λ (x : ℕ). x % w) j)) (λ k. f t k i) (cases_cons m))
@@ -141,7 +141,7 @@ module _ {w : ℕ} (pos : 0 < w) {acc : List ℕ} {win : Window} (sound : Sound 
       at : (r : ℕ) → r < w → Dec (r ≡ s % w) → Holds w (s ∷ acc) r (get_or (set win.ring (s % w) s) r 0)
       at r k (yes q) =
           let l : s % w < length win.ring = omega (arith, sound.size) in
-          rw (q, get_or-set_same) (largest (head refl) refl largest-here)
+          rw (q, get_or-set_same) (largest (head refl) refl largest_here)
       at r k (no q) = rw (get_or-set_other _ _ _ _ _ q) (other r _ q (sound.place r k))
 
 -- ---- one window for what was accepted, in whatever order
@@ -153,8 +153,8 @@ highest_le [] n f = omega arith
 highest_le (x ∷ acc) n f = omega (arith, f x (head refl), highest_le acc n (λ t m. f t (tail m)))
 
 module _ {acc acc' : List ℕ} (to : (t : ℕ) → Member t acc → Member t acc') (from : (t : ℕ) → Member t acc' → Member t acc) where
-  same-highest : highest acc ≡ highest acc'
-  same-highest = omega (arith, highest_le acc (highest acc') (λ t m. le_highest acc' t (to t m)), highest_le acc' (highest acc) (λ t m. le_highest acc t (from t m)))
+  same_highest : highest acc ≡ highest acc'
+  same_highest = omega (arith, highest_le acc (highest acc') (λ t m. le_highest acc' t (to t m)), highest_le acc' (highest acc) (λ t m. le_highest acc t (from t m)))
 
   same_place : {w r v v' : ℕ} → Holds w acc r v → Holds w acc' r v' → v ≡ v'
   same_place (none e f) (none e' f') = e ∙ sym e'
@@ -165,6 +165,6 @@ module _ {acc acc' : List ℕ} (to : (t : ℕ) → Member t acc → Member t acc
   -- two windows that accepted the same sequences are one
   pub sound_one : {w : ℕ} {win win' : Window} → Sound w acc win → Sound w acc' win' → win ≡ win'
   sound_one {w} {win} {win'} p q =
-      let m : win.most ≡ win'.most = p.most ∙ same-highest ∙ sym q.most in
+      let m : win.most ≡ win'.most = p.most ∙ same_highest ∙ sym q.most in
       let r : win.ring ≡ win'.ring = ext_get_or 0 win.ring win'.ring (p.size ∙ sym q.size) (λ i h. let k : i < w = omega (arith, p.size) in same_place (p.place i k) (q.place i k)) in
       λ i. record { most = m i; ring = r i }

@@ -18,8 +18,8 @@ use Rattle.replay_protection.proofs.Ways.{arrive_refused, arrive_accepted}
 
 module _ (w : ℕ) (t : List ℕ) (at : ℕ) (fits : at + 1 + w ≤ length t) where
   -- a store of the highest leaves the places
-  ring-kept : (m : ℕ) → part (set t at m) (at + 1) w ≡ part t (at + 1) w
-  ring-kept m = part_set_other t at m (at + 1) w fits (λ o h e. omega arith)
+  ring_kept : (m : ℕ) → part (set t at m) (at + 1) w ≡ part t (at + 1) w
+  ring_kept m = part_set_other t at m (at + 1) w fits (λ o h e. omega arith)
 
   -- the highest and a ring with v at place k, in two stores
   two_stores : (m k v : ℕ) → k < w → set (set t at m) (at + 1 + k) v ≡ splice t at (m ∷ set (part t (at + 1) w) k v)
@@ -29,7 +29,7 @@ module _ (w : ℕ) (t : List ℕ) (at : ℕ) (fits : at + 1 + w ≤ length t) wh
       let n : length ring ≡ w = length_part t (at + 1) w fits in
       let i : length u ≡ length t = length-set t at m in
       let j : length (set ring k v) ≡ length ring = length-set ring k v in
-      ap (λ (x : List ℕ). set x (at + 1 + k) v) (sym (splice_part u (at + 1) w (omega arith)) ∙ ap (splice u (at + 1)) (ring-kept m))
+      ap (λ (x : List ℕ). set x (at + 1 + k) v) (sym (splice_part u (at + 1) w (omega arith)) ∙ ap (splice u (at + 1)) (ring_kept m))
       ∙ set_in_splice u (at + 1) ring k v (omega arith) (omega arith)
       ∙ splice_cons t at m (set ring k v) (omega arith)
 
@@ -46,18 +46,18 @@ module _ (w : ℕ) (t : List ℕ) (at : ℕ) (fits : at + 1 + w ≤ length t) wh
   -- the code's ways in place: p is the place, c the number and m the highest
   module _ (pos : 0 < w) (s : ℕ) {p : ℕ} (here : p ≡ s % w) where
     -- what the place of s holds, where it lies in the table
-    held-here : get_or t (at + 1 + p) 0 ≡ placed w (window_at w t at) s
+    held_here : get_or t (at + 1 + p) 0 ≡ placed w (window_at w t at) s
     unfolding window_at
-    held-here = ap (λ (i : ℕ). get_or t (at + 1 + i) 0) here ∙ sym (get_or_part t (at + 1) w (s % w) (mod-lt s pos))
+    held_here = ap (λ (i : ℕ). get_or t (at + 1 + i) 0) here ∙ sym (get_or_part t (at + 1) w (s % w) (mod-lt s pos))
 
-    pub refusal-here : refusal_by w (get_or t at 0) (get_or t (at + 1 + p) 0) s ≡ refusal w (window_at w t at) s
+    pub refusal_here : refusal_by w (get_or t at 0) (get_or t (at + 1 + p) 0) s ≡ refusal w (window_at w t at) s
     unfolding window_at
-    refusal-here = ap (λ (h : ℕ). refusal_by w (get_or t at 0) h s) held-here
+    refusal_here = ap (λ (h : ℕ). refusal_by w (get_or t at 0) h s) held_here
 
     module _ {c : ℕ} (number : c ≡ refusal_by w (get_or t at 0) (get_or t (at + 1 + p) 0) s) where
       -- a refused arrival leaves the table as it was
       pub kept_here : c ≢ 0 → t ≡ put_window t at (arrive w (window_at w t at) s)
-      kept_here n = sym (ap (put_window t at) (arrive_refused w (window_at w t at) s (λ e. n (number ∙ refusal-here ∙ e))) ∙ put_loaded)
+      kept_here n = sym (ap (put_window t at) (arrive_refused w (window_at w t at) s (λ e. n (number ∙ refusal_here ∙ e))) ∙ put_loaded)
 
       -- an accepted one stores two words
       pub moved_here : {m : ℕ} → c ≡ 0 → m ≡ max (get_or t at 0) s → set (set t at m) (at + 1 + p) s ≡ put_window t at (arrive w (window_at w t at) s)
@@ -65,7 +65,7 @@ module _ (w : ℕ) (t : List ℕ) (at : ℕ) (fits : at + 1 + w ≤ length t) wh
       moved_here e h =
           ap₂ (λ (m i : ℕ). set (set t at m) (at + 1 + i) s) h here
           ∙ two_stores (max (get_or t at 0) s) (s % w) s (mod-lt s pos)
-          ∙ ap (put_window t at) (sym (arrive_accepted w (window_at w t at) s (sym (number ∙ refusal-here) ∙ e)))
+          ∙ ap (put_window t at) (sym (arrive_accepted w (window_at w t at) s (sym (number ∙ refusal_here) ∙ e)))
 
 module _ (t : List ℕ) (at : ℕ) (win : Window) (fits : at + 1 + length win.ring ≤ length t) where
   pub length_put : length (put_window t at win) ≡ length t

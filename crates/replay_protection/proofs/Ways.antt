@@ -73,9 +73,9 @@ module _ (w : ℕ) (win : Window) (s : ℕ) where
     by_place_lem : c ≡ refusal w win s
     by_place_lem = number ∙ ap (λ (i : ℕ). refusal_by w win.most (get_or win.ring i 0) s) here
 
-    pub advance-kept : c ≢ 0 → win ≡ arrive w win s
-    advance-kept n = sym (arrive_refused (λ e. n (by_place_lem ∙ e)))
+    pub advance_kept : c ≢ 0 → win ≡ arrive w win s
+    advance_kept n = sym (arrive_refused (λ e. n (by_place_lem ∙ e)))
 
-    pub advance-moved : {m : ℕ} → c ≡ 0 → m ≡ max win.most s → window m (set win.ring p s) ≡ arrive w win s
+    pub advance_moved : {m : ℕ} → c ≡ 0 → m ≡ max win.most s → window m (set win.ring p s) ≡ arrive w win s
     unfolding advance
-    advance-moved e h = ap₂ (λ (m i : ℕ). window m (set win.ring i s)) h here ∙ sym (arrive_accepted (sym by_place_lem ∙ e))
+    advance_moved e h = ap₂ (λ (m i : ℕ). window m (set win.ring i s)) h here ∙ sym (arrive_accepted (sym by_place_lem ∙ e))

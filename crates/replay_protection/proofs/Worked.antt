@@ -13,7 +13,7 @@ use native.Mathlib.Omega.{arith}
 use Rattle.serialize.specs.Choice.{pick}
 use Rattle.replay_protection.specs.Replay.{fresh, behind, repeated, spent, refusal_by, advance, arrive}
 use Rattle.replay_protection.specs.Arrivals.{run, accepted, highest, InTime}
-use Rattle.replay_protection.proofs.Histories.{accepted_once, complete-once, any_order}
+use Rattle.replay_protection.proofs.Histories.{accepted_once, complete_once, any_order}
 
 abbrev sent : List ℕ
 sent = 301 ∷ 45 ∷ 300 ∷ []
@@ -52,7 +52,7 @@ once = accepted_once 256 (omega arith) sent
 
 -- so the accepted are the sent, once each
 pub worked : Perm (accepted 256 arrivals) sent
-worked = complete-once 256 (omega arith) arrivals sent only each once
+worked = complete_once 256 (omega arith) arrivals sent only each once
 
 -- and 300 and 45 leave one window in either order
 pub worked_order : run 256 (45 ∷ 300 ∷ []) ≡ run 256 (300 ∷ 45 ∷ [])

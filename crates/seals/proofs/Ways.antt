@@ -64,25 +64,25 @@ seal_fits stage slots pending datagram out fits goal sequence end g wide =
 
 module _ (pending : List ℕ) (m : ℕ) (held : List ℕ) (addr : Address) (time : Time) where
   module _ (x : Found) (found : x ≡ find_free pending m) where
-    pub place-taken : (j : ℕ) → x ≡ At j → (c : Connection) → c ≡ newcomer held addr time → (u : List ℕ) → u ≡ filled pending m j c
+    pub place_taken : (j : ℕ) → x ≡ At j → (c : Connection) → c ≡ newcomer held addr time → (u : List ℕ) → u ≡ filled pending m j c
         → u ≡ by_place pending m held addr time (find_free pending m)
     unfolding by_place
-    place-taken j g c f u h = h ∙ ap (filled pending m j) f ∙ ap (by_place pending m held addr time) (sym g ∙ found)
+    place_taken j g c f u h = h ∙ ap (filled pending m j) f ∙ ap (by_place pending m held addr time) (sym g ∙ found)
 
     pub no_place : x ≡ Nothing → pending ≡ by_place pending m held addr time (find_free pending m)
     unfolding by_place
     no_place g = ap (by_place pending m held addr time) (sym g ∙ found)
 
   module _ (x : Found) (found : x ≡ find_address pending m addr) where
-    pub times-move : (j : ℕ) → x ≡ At j → (u : List ℕ) → u ≡ put_time pending (received_at m j) time → (v : List ℕ) → v ≡ put_time u (sent_at m j) time
+    pub times_move : (j : ℕ) → x ≡ At j → (u : List ℕ) → u ≡ put_time pending (received_at m j) time → (v : List ℕ) → v ≡ put_time u (sent_at m j) time
         → v ≡ waits pending m held addr time
     unfolding by_same
-    times-move j g u e v f =
+    times_move j g u e v f =
         f ∙ ap (λ (l : List ℕ). put_time l (sent_at m j) time) e ∙ ap (by_same pending m held addr time) (sym g ∙ found)
 
-    pub newcomer-waits : x ≡ Nothing → (u : List ℕ) → u ≡ by_place pending m held addr time (find_free pending m) → u ≡ waits pending m held addr time
+    pub newcomer_waits : x ≡ Nothing → (u : List ℕ) → u ≡ by_place pending m held addr time (find_free pending m) → u ≡ waits pending m held addr time
     unfolding by_same
-    newcomer-waits g u e = e ∙ ap (by_same pending m held addr time) (sym g ∙ found)
+    newcomer_waits g u e = e ∙ ap (by_same pending m held addr time) (sym g ∙ found)
 
 -- ---- the slot of a new connection: v is the slots with the record moved there, d the challenge's user data, w the slots with those
 
@@ -111,43 +111,43 @@ module _ (s : NetcodeServer) (slots pending held : List ℕ) (sequence end : ℕ
   slot_connects j i id e addr f u v g h r k = simp (k, e, f, g, h)
 
   module _ (out : ℕ) (goal : Goal) where
-    by-goal : (g : Goal) → goal ≡ g → (o : Outcome) → o ≡ sealed t held out sequence end g → o ≡ sealed t held out sequence end goal
-    by-goal g e o f = f ∙ ap (sealed t held out sequence end) (sym e)
+    by_goal : (g : Goal) → goal ≡ g → (o : Outcome) → o ≡ sealed t held out sequence end g → o ≡ sealed t held out sequence end goal
+    by_goal g e o f = f ∙ ap (sealed t held out sequence end) (sym e)
 
-    pub denied-sealed : (addr : Address) → goal ≡ Denied addr → (n : NetcodeServer) → n ≡ spent s sequence
+    pub denied_sealed : (addr : Address) → goal ≡ Denied addr → (n : NetcodeServer) → n ≡ spent s sequence
         → (r : Turn) → r ≡ closed n (PacketToSend addr end) → came r slots pending ≡ sealed t held out sequence end goal
     unfolding sealed
-    denied-sealed addr g n e r f =
-        by-goal (Denied addr) g (came r slots pending)
+    denied_sealed addr g n e r f =
+        by_goal (Denied addr) g (came r slots pending)
         (ap (λ (x : Turn). came x slots pending) (f ∙ ap (λ (x : NetcodeServer). closed x (PacketToSend addr end)) e))
 
-    pub token-sealed : (addr : Address) → goal ≡ ChallengeToken addr → (r : Turn) → r ≡ packet_asked s held out addr sequence end
+    pub token_sealed : (addr : Address) → goal ≡ ChallengeToken addr → (r : Turn) → r ≡ packet_asked s held out addr sequence end
         → came r slots pending ≡ sealed t held out sequence end goal
     unfolding sealed
-    token-sealed addr g r f = by-goal (ChallengeToken addr) g (came r slots pending) (ap (λ (x : Turn). came x slots pending) f)
+    token_sealed addr g r f = by_goal (ChallengeToken addr) g (came r slots pending) (ap (λ (x : Turn). came x slots pending) f)
 
-    pub packet-sealed : (addr : Address) → goal ≡ ChallengePacket addr
+    pub packet_sealed : (addr : Address) → goal ≡ ChallengePacket addr
         → (u : List ℕ) → u ≡ waits pending s.set.pending held addr s.current_time → (n : NetcodeServer) → n ≡ spent s sequence
         → (r : Turn) → r ≡ closed n (PacketToSend addr end) → came r slots u ≡ sealed t held out sequence end goal
     unfolding sealed
-    packet-sealed addr g u w n e r f =
-        by-goal (ChallengePacket addr) g (came r slots u)
+    packet_sealed addr g u w n e r f =
+        by_goal (ChallengePacket addr) g (came r slots u)
         (ap₂ (λ (x : Turn) (l : List ℕ). came x slots l) (f ∙ ap (λ (x : NetcodeServer). closed x (PacketToSend addr end)) e) w)
 
-    pub connecting-sealed : (j i : ℕ) → goal ≡ Connecting j i → (r : Turn) (u v : List ℕ) → came r u v ≡ connects t held j i sequence end
+    pub connecting_sealed : (j i : ℕ) → goal ≡ Connecting j i → (r : Turn) (u v : List ℕ) → came r u v ≡ connects t held j i sequence end
         → came r u v ≡ sealed t held out sequence end goal
     unfolding sealed
-    connecting-sealed j i g r u v f = by-goal (Connecting j i) g (came r u v) f
+    connecting_sealed j i g r u v f = by_goal (Connecting j i) g (came r u v) f
 
-    pub sending-sealed : (i : ℕ) → goal ≡ Sending i → (r : Turn) (u : List ℕ) → half r u ≡ sends s slots i sequence end
+    pub sending_sealed : (i : ℕ) → goal ≡ Sending i → (r : Turn) (u : List ℕ) → half r u ≡ sends s slots i sequence end
         → came r u pending ≡ sealed t held out sequence end goal
     unfolding sealed
-    sending-sealed i g r u f = by-goal (Sending i) g (came r u pending) (ap (λ (h : Half). from_slot t h) f)
+    sending_sealed i g r u f = by_goal (Sending i) g (came r u pending) (ap (λ (h : Half). from_slot t h) f)
 
-    pub ending-sealed : (id : ℕ) (addr : Address) → goal ≡ Ending id addr → (r : Turn) → r ≡ closed s (ClientDisconnected id addr end 0)
+    pub ending_sealed : (id : ℕ) (addr : Address) → goal ≡ Ending id addr → (r : Turn) → r ≡ closed s (ClientDisconnected id addr end 0)
         → came r slots pending ≡ sealed t held out sequence end goal
     unfolding sealed
-    ending-sealed id addr g r f = by-goal (Ending id addr) g (came r slots pending) (ap (λ (x : Turn). came x slots pending) f)
+    ending_sealed id addr g r f = by_goal (Ending id addr) g (came r slots pending) (ap (λ (x : Turn). came x slots pending) f)
 
 -- ---- the answer
 
@@ -158,54 +158,54 @@ module _ (s : NetcodeServer) (slots pending : List ℕ) (granted : Bool) (held :
   abbrev stage : Stage
   stage = s.ask.stage
 
-  by-stage : (x : Stage) → stage ≡ x → (o : Outcome) → o ≡ by_stage at granted held out x → o ≡ by_stage at granted held out stage
-  by-stage x e o f = f ∙ ap (by_stage at granted held out) (sym e)
+  by_stage_lem : (x : Stage) → stage ≡ x → (o : Outcome) → o ≡ by_stage at granted held out x → o ≡ by_stage at granted held out stage
+  by_stage_lem x e o f = f ∙ ap (by_stage at granted held out) (sym e)
 
   same : (r : Turn) (n : ℕ) → r ≡ refused s n → came r slots pending ≡ refuses at n
   same r n e = ap (λ (x : Turn). came x slots pending) e
 
   pub idle_refused : stage ≡ Idle → (r : Turn) → r ≡ refused s 17 → came r slots pending ≡ by_stage at granted held out stage
   unfolding by_stage
-  idle_refused g r e = by-stage Idle g (came r slots pending) (same r 17 e)
+  idle_refused g r e = by_stage_lem Idle g (came r slots pending) (same r 17 e)
 
   pub packet_refused : (connected : Bool) (place : ℕ) (kind : PacketType) (sequence start : ℕ) → stage ≡ Packet connected place kind sequence start
       → (r : Turn) → r ≡ refused s 18 → came r slots pending ≡ by_stage at granted held out stage
   unfolding by_stage
   packet_refused connected place kind sequence start g r e =
-      by-stage (Packet connected place kind sequence start) g (came r slots pending) (same r 18 e)
+      by_stage_lem (Packet connected place kind sequence start) g (came r slots pending) (same r 18 e)
 
   pub token_refused : (addr : Address) (expiry low high : ℕ) → stage ≡ Token addr expiry low high
       → (r : Turn) → r ≡ refused s 18 → came r slots pending ≡ by_stage at granted held out stage
   unfolding by_stage
-  token_refused addr expiry low high g r e = by-stage (Token addr expiry low high) g (came r slots pending) (same r 18 e)
+  token_refused addr expiry low high g r e = by_stage_lem (Token addr expiry low high) g (came r slots pending) (same r 18 e)
 
   pub challenge_refused : (place start : ℕ) → stage ≡ Challenge place start
       → (r : Turn) → r ≡ refused s 18 → came r slots pending ≡ by_stage at granted held out stage
   unfolding by_stage
-  challenge_refused place start g r e = by-stage (Challenge place start) g (came r slots pending) (same r 18 e)
+  challenge_refused place start g r e = by_stage_lem (Challenge place start) g (came r slots pending) (same r 18 e)
 
   module _ (goal : Goal) (sequence end : ℕ) (g : stage ≡ Seal goal sequence end) where
-    abbrev by-grant : Bool → Outcome
-    by-grant b = pick b (sealed at held out sequence end goal) (came (unsealed s goal) slots pending)
+    abbrev by_grant : Bool → Outcome
+    by_grant b = pick b (sealed at held out sequence end goal) (came (unsealed s goal) slots pending)
 
-    pub host-grants : granted ≡ true → (r : Turn) (u v : List ℕ) → came r u v ≡ sealed at held out sequence end goal
+    pub host_grants : granted ≡ true → (r : Turn) (u v : List ℕ) → came r u v ≡ sealed at held out sequence end goal
         → came r u v ≡ by_stage at granted held out stage
     unfolding by_stage pick
-    host-grants y r u v e = by-stage (Seal goal sequence end) g (came r u v) (e ∙ ap by-grant (sym y))
+    host_grants y r u v e = by_stage_lem (Seal goal sequence end) g (came r u v) (e ∙ ap by_grant (sym y))
 
-    pub host-denies : granted ≡ false → (r : Turn) → r ≡ unsealed s goal → came r slots pending ≡ by_stage at granted held out stage
+    pub host_denies : granted ≡ false → (r : Turn) → r ≡ unsealed s goal → came r slots pending ≡ by_stage at granted held out stage
     unfolding by_stage pick
-    host-denies y r e =
-        by-stage (Seal goal sequence end) g (came r slots pending) (ap (λ (x : Turn). came x slots pending) e ∙ ap by-grant (sym y))
+    host_denies y r e =
+        by_stage_lem (Seal goal sequence end) g (came r slots pending) (ap (λ (x : Turn). came x slots pending) e ∙ ap by_grant (sym y))
 
   module _ (n : ℕ) (tested : n ≡ seal_refusal at out) where
     abbrev by_test : Bool → Outcome
     by_test b = pick b (by_stage at granted held out stage) (refuses at (seal_refusal at out))
 
-    pub seals-refused : (n ≡ 0 → ⊥) → (r : Turn) → r ≡ refused s n → came r slots pending ≡ seals at granted held out
+    pub seals_refused : (n ≡ 0 → ⊥) → (r : Turn) → r ≡ refused s n → came r slots pending ≡ seals at granted held out
     unfolding seals pick
-    seals-refused z r e = same r n e ∙ ap (refuses at) tested ∙ sym (ap by_test (ne_eqb (seal_refusal at out) 0 (λ x. z (tested ∙ x))))
+    seals_refused z r e = same r n e ∙ ap (refuses at) tested ∙ sym (ap by_test (ne_eqb (seal_refusal at out) 0 (λ x. z (tested ∙ x))))
 
-    pub seals-answers : n ≡ 0 → (r : Turn) (u v : List ℕ) → came r u v ≡ by_stage at granted held out stage → came r u v ≡ seals at granted held out
+    pub seals_answers : n ≡ 0 → (r : Turn) (u v : List ℕ) → came r u v ≡ by_stage at granted held out stage → came r u v ≡ seals at granted held out
     unfolding seals pick
-    seals-answers z r u v e = e ∙ sym (ap by_test (eq-eqb (seal_refusal at out) 0 (sym tested ∙ z)))
+    seals_answers z r u v e = e ∙ sym (ap by_test (eq-eqb (seal_refusal at out) 0 (sym tested ∙ z)))

@@ -21,9 +21,9 @@ both_true true b e = (refl, e)
 both_true false b e = absurd (true_false e refl)
 
 module _ (timeout : ℕ) (received now : Time) where
-  is-overdue : overdue_at timeout received now ≡ true → Overdue timeout received now
+  is_overdue : overdue_at timeout received now ≡ true → Overdue timeout received now
   unfolding overdue_at over_zero
-  is-overdue e =
+  is_overdue e =
       let p = both_true (over_zero timeout) (past received timeout now) e in
       let q = both_true (ltb 0 timeout) (ltb timeout (2 ^ 31)) p.0 in
       record {
@@ -32,9 +32,9 @@ module _ (timeout : ℕ) (received now : Time) where
         passed = ltb-true (whole received + timeout * second) (whole now) p.1;
       }
 
-  told-overdue : Overdue timeout received now → overdue_at timeout received now ≡ true
+  told_overdue : Overdue timeout received now → overdue_at timeout received now ≡ true
   unfolding overdue_at over_zero
-  told-overdue o =
+  told_overdue o =
       simp (
         lt-ltb 0 timeout o.over_0,
         lt-ltb timeout (2 ^ 31) o.not_negative,
@@ -42,11 +42,11 @@ module _ (timeout : ℕ) (received now : Time) where
       )
 
   pub overdue_exactly : (overdue_at timeout received now ≡ true) ↔ Overdue timeout received now
-  overdue_exactly = (is-overdue, told-overdue)
+  overdue_exactly = (is_overdue, told_overdue)
 
   -- 0 and a number below 0, whose 32 bits are 2^31 or more, never
   pub never_overdue : (0 < timeout → timeout < 2 ^ 31 → ⊥) → overdue_at timeout received now ≡ true → ⊥
-  never_overdue n e = let o = is-overdue e in n o.over_0 o.not_negative
+  never_overdue n e = let o = is_overdue e in n o.over_0 o.not_negative
 
 -- ---- the figures of document 01: timeout 15, received 10 s: stays at 25 s, out one nanosecond later; 0 and -1 never
 

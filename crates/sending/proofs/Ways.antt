@@ -60,17 +60,17 @@ packet_sized k given sequence e = simp e
 -- ---- a packet that its slot goes on after
 
 module _ (s : NetcodeServer) (i : ℕ) (packet : Packet) (bytes out : List ℕ) where
-  abbrev sent-under : List ℕ → ℕ → Spoken
-  sent-under key x = sending_under s i packet bytes key x out
+  abbrev sent_under_lem : List ℕ → ℕ → Spoken
+  sent_under_lem key x = sending_under s i packet bytes key x out
 
-  abbrev asked-for : ℕ → Sealing → Spoken
-  asked-for x w = spoken (asking s (Seal (Sending i) x w.ask.end) 0 (length out) w.ask) w.out
+  abbrev asked_for : ℕ → Sealing → Spoken
+  asked_for x w = spoken (asking s (Seal (Sending i) x w.ask.end) 0 (length out) w.ask) w.out
 
-  abbrev to-seal : List ℕ → ℕ → Sealing
-  to-seal key x = sealing (seal_ask_with packet (length bytes) s.set.protocol_id key x) (seal_out_with out packet bytes x)
+  abbrev to_seal : List ℕ → ℕ → Sealing
+  to_seal key x = sealing (seal_ask_with packet (length bytes) s.set.protocol_id key x) (seal_out_with out packet bytes x)
 
   pub sending_late : (key : List ℕ) (sequence x : ℕ) → x ≡ sequence → x ≡ 2 ^ 64 - 1 → (r : Turn) → r ≡ refused s 15
-      → spoken r out ≡ sent-under key sequence
+      → spoken r out ≡ sent_under_lem key sequence
   unfolding sending_under pick
   sending_late key sequence x counted l r e = ap (λ (y : Turn). spoken y out) e ∙ simp (eq-eqb sequence (2 ^ 64 - 1) (sym counted ∙ l))
 
@@ -78,14 +78,14 @@ module _ (s : NetcodeServer) (i : ℕ) (packet : Packet) (bytes out : List ℕ) 
     needed : b ≡ need (kind_of packet) (length bytes) x
     needed = sized ∙ ap (λ (y : PacketType). need y (length bytes) x) typed
 
-    short : (key : List ℕ) → length out < b → spoken (refused s 14) out ≡ sent-under key x
+    short : (key : List ℕ) → length out < b → spoken (refused s 14) out ≡ sent_under_lem key x
     unfolding sending_under pick
     short key h =
         let n = needed in
         let l : length out < need (kind_of packet) (length bytes) x = omega arith in
         simp (ne_eqb x (2 ^ 64 - 1) more, lt-ltb (length out) (need (kind_of packet) (length bytes) x) l)
 
-    roomy : (key : List ℕ) → b ≤ length out → asked-for x (to-seal key x) ≡ sent-under key x
+    roomy : (key : List ℕ) → b ≤ length out → asked_for x (to_seal key x) ≡ sent_under_lem key x
     unfolding sending_under pick seal_ask_with asked
     roomy key h =
         let n = needed in
@@ -98,13 +98,13 @@ module _ (s : NetcodeServer) (i : ℕ) (packet : Packet) (bytes out : List ℕ) 
     sending_fits e f h = let n = needed in (e, f, omega arith)
 
     module _ (key : List ℕ) (sequence : ℕ) (counted : x ≡ sequence) where
-      pub sending-short : length out < b → (r : Turn) → r ≡ refused s 14 → spoken r out ≡ sent-under key sequence
-      sending-short h r e = ap (λ (y : Turn). spoken y out) e ∙ short key h ∙ ap (sent-under key) counted
+      pub sending_short : length out < b → (r : Turn) → r ≡ refused s 14 → spoken r out ≡ sent_under_lem key sequence
+      sending_short h r e = ap (λ (y : Turn). spoken y out) e ∙ short key h ∙ ap (sent_under_lem key) counted
 
-      pub sending-asks : b ≤ length out → (l : List ℕ) → l ≡ key → (a : Ask) (out' : List ℕ) → sealing a out' ≡ to-seal l x
-          → (r : Turn) → r ≡ asking s (Seal (Sending i) x a.end) 0 (length out) a → spoken r out' ≡ sent-under key sequence
-      sending-asks h l el a out' e r f =
-          ap (λ (y : Turn). spoken y out') f ∙ ap (asked-for x) e ∙ roomy l h ∙ ap₂ sent-under el counted
+      pub sending_asks : b ≤ length out → (l : List ℕ) → l ≡ key → (a : Ask) (out' : List ℕ) → sealing a out' ≡ to_seal l x
+          → (r : Turn) → r ≡ asking s (Seal (Sending i) x a.end) 0 (length out) a → spoken r out' ≡ sent_under_lem key sequence
+      sending_asks h l el a out' e r f =
+          ap (λ (y : Turn). spoken y out') f ∙ ap (asked_for x) e ∙ roomy l h ∙ ap₂ sent_under_lem el counted
 
 -- a keep-alive is sealed, and has nothing beside it
 pub alive_sends : (s : NetcodeServer) (slots : List ℕ) (i : ℕ) (out : List ℕ) (p : Packet) → p ≡ keep_alive s.max_clients i
@@ -114,47 +114,47 @@ alive_sends s slots i out p e x f = f ∙ ap (λ (y : Packet). sending s slots i
 -- ---- the packet that ends a slot
 
 module _ (s : NetcodeServer) (id : ℕ) (slots : List ℕ) (i : ℕ) (out : List ℕ) where
-  abbrev ended-under : Address → List ℕ → ℕ → Served
-  ended-under addr key x = ending_under s id slots i addr key x out
+  abbrev ended_under : Address → List ℕ → ℕ → Served
+  ended_under addr key x = ending_under s id slots i addr key x out
 
-  abbrev last-ask : Address → ℕ → Sealing → Served
-  last-ask addr x w = served (asking s (Seal (Ending id addr) x w.ask.end) 0 (length out) w.ask) (emptied slots i) w.out
+  abbrev last_ask : Address → ℕ → Sealing → Served
+  last_ask addr x w = served (asking s (Seal (Ending id addr) x w.ask.end) 0 (length out) w.ask) (emptied slots i) w.out
 
   abbrev to_end : List ℕ → ℕ → Sealing
   to_end key x = sealing (seal_ask Disconnect s.set.protocol_id key x) (seal_out out Disconnect x)
 
   module _ (addr : Address) (key : List ℕ) (sequence : ℕ) (a : Address) (there : a ≡ addr) (x : ℕ) (counted : x ≡ sequence) where
-    pub ending-late : x ≡ 2 ^ 64 - 1 → (u : List ℕ) → u ≡ emptied slots i → (r : Turn) → r ≡ answered s (ClientDisconnected id a 0 15)
-        → served r u out ≡ ended-under addr key sequence
+    pub ending_late : x ≡ 2 ^ 64 - 1 → (u : List ℕ) → u ≡ emptied slots i → (r : Turn) → r ≡ answered s (ClientDisconnected id a 0 15)
+        → served r u out ≡ ended_under addr key sequence
     unfolding ending_under pick
-    ending-late l u e r f =
+    ending_late l u e r f =
         ap₂ (λ (y : Turn) (z : List ℕ). served y z out) (f ∙ ap (λ (y : Address). answered s (ClientDisconnected id y 0 15)) there) e
         ∙ simp (eq-eqb sequence (2 ^ 64 - 1) (sym counted ∙ l))
 
     module _ (more : x ≡ 2 ^ 64 - 1 → ⊥) (b : ℕ) (sized : b ≡ need (kind_of Disconnect) 0 x) where
-      end_short : length out < b → served (refused s 14) slots out ≡ ended-under addr key x
+      end_short : length out < b → served (refused s 14) slots out ≡ ended_under addr key x
       unfolding ending_under pick
       end_short h =
           let l : length out < need (kind_of Disconnect) 0 x = omega arith in
           simp (ne_eqb x (2 ^ 64 - 1) more, lt-ltb (length out) (need (kind_of Disconnect) 0 x) l)
 
-      end-roomy : b ≤ length out → last-ask addr x (to_end key x) ≡ ended-under addr key x
+      end_roomy : b ≤ length out → last_ask addr x (to_end key x) ≡ ended_under addr key x
       unfolding ending_under pick seal_ask_with asked
-      end-roomy h =
+      end_roomy h =
           let l : need (kind_of Disconnect) 0 x ≤ length out = omega arith in
           simp (ne_eqb x (2 ^ 64 - 1) more, le-ltb (length out) (need (kind_of Disconnect) 0 x) l)
 
-      pub ending-short : length out < b → (r : Turn) → r ≡ refused s 14 → served r slots out ≡ ended-under addr key sequence
-      ending-short h r e = ap (λ (y : Turn). served y slots out) e ∙ end_short h ∙ ap (ended-under addr key) counted
+      pub ending_short : length out < b → (r : Turn) → r ≡ refused s 14 → served r slots out ≡ ended_under addr key sequence
+      ending_short h r e = ap (λ (y : Turn). served y slots out) e ∙ end_short h ∙ ap (ended_under addr key) counted
 
-      pub ending-asks : b ≤ length out → (l : List ℕ) → l ≡ key → (u : List ℕ) → u ≡ emptied slots i
+      pub ending_asks : b ≤ length out → (l : List ℕ) → l ≡ key → (u : List ℕ) → u ≡ emptied slots i
           → (q : Ask) (out' : List ℕ) → sealing q out' ≡ to_end l x
-          → (r : Turn) → r ≡ asking s (Seal (Ending id a) x q.end) 0 (length out) q → served r u out' ≡ ended-under addr key sequence
-      ending-asks h l el u eu q out' e r f =
+          → (r : Turn) → r ≡ asking s (Seal (Ending id a) x q.end) 0 (length out) q → served r u out' ≡ ended_under addr key sequence
+      ending_asks h l el u eu q out' e r f =
           ap₂ (λ (y : Turn) (z : List ℕ). served y z out') f eu
-          ∙ ap₂ (λ (y : Address) (w : Sealing). last-ask y x w) there (e ∙ ap (λ (y : List ℕ). to_end y x) el)
-          ∙ end-roomy h
-          ∙ ap (ended-under addr key) counted
+          ∙ ap₂ (λ (y : Address) (w : Sealing). last_ask y x w) there (e ∙ ap (λ (y : List ℕ). to_end y x) el)
+          ∙ end_roomy h
+          ∙ ap (ended_under addr key) counted
 
 -- ---- a payload
 
@@ -200,11 +200,11 @@ module _ (s : NetcodeServer) (slots : List ℕ) (id : ℕ) (payload out : List �
     both : (ready_refusal s (length slots) ≡ 0) × (limit_refusal (length payload) ≡ 0)
     both = neither (ready_refusal s (length slots)) (limit_refusal (length payload)) (sym tested ∙ zero)
 
-    pub generate-shaped : Shaped slots s.set.slots
-    generate-shaped = ready_shaped s slots (ready_refusal s (length slots)) refl both.0
+    pub generate_shaped : Shaped slots s.set.slots
+    generate_shaped = ready_shaped s slots (ready_refusal s (length slots)) refl both.0
 
-    pub generate-small : length payload ≤ 1300
-    generate-small = only_within (length payload) both.1
+    pub generate_small : length payload ≤ 1300
+    generate_small = only_within (length payload) both.1
 
     module _ (f : Found) (searched : f ≡ find_id slots s.set.slots id) where
       onto : by_client s slots payload out f ≡ generated s slots id payload out
@@ -213,13 +213,13 @@ module _ (s : NetcodeServer) (slots : List ℕ) (id : ℕ) (payload out : List �
           ap (by_client s slots payload out) searched
           ∙ simp (eq-eqb (payload_refusal s (length slots) (length payload)) 0 (sym tested ∙ zero))
 
-      pub generate-found : (i : ℕ) → f ≡ found.At i → (x : Spoken) → x ≡ sending s slots i Payload payload out → x ≡ generated s slots id payload out
+      pub generate_found : (i : ℕ) → f ≡ found.At i → (x : Spoken) → x ≡ sending s slots i Payload payload out → x ≡ generated s slots id payload out
       unfolding by_client
-      generate-found i e x g = g ∙ ap (by_client s slots payload out) (sym e) ∙ onto
+      generate_found i e x g = g ∙ ap (by_client s slots payload out) (sym e) ∙ onto
 
-      pub generate-missed : f ≡ found.Nothing → (t : Turn) → t ≡ refused s 22 → spoken t out ≡ generated s slots id payload out
+      pub generate_missed : f ≡ found.Nothing → (t : Turn) → t ≡ refused s 22 → spoken t out ≡ generated s slots id payload out
       unfolding by_client
-      generate-missed e t g = ap (λ (y : Turn). spoken y out) g ∙ ap (by_client s slots payload out) (sym e) ∙ onto
+      generate_missed e t g = ap (λ (y : Turn). spoken y out) g ∙ ap (by_client s slots payload out) (sym e) ∙ onto
 
 -- ---- when a slot is overdue
 
@@ -254,9 +254,9 @@ module _ (s : NetcodeServer) (id : ℕ) (slots : List ℕ) (i : ℕ) (out : List
     unfolding slot_updated pick
     slot_sends u t out' e = ap (keeping slots) e ∙ simp (sym tested ∙ on-time, sym asked-too ∙ u)
 
-    pub slot-rests : q ≡ false → (t : Turn) → t ≡ answered s Nothing → served t slots out ≡ slot_updated s id slots i out
+    pub slot_rests : q ≡ false → (t : Turn) → t ≡ answered s Nothing → served t slots out ≡ slot_updated s id slots i out
     unfolding slot_updated pick
-    slot-rests u t e = ap (λ (y : Turn). served y slots out) e ∙ simp (sym tested ∙ on-time, sym asked-too ∙ u)
+    slot_rests u t e = ap (λ (y : Turn). served y slots out) e ∙ simp (sym tested ∙ on-time, sym asked-too ∙ u)
 
 module _ (s : NetcodeServer) (id : ℕ) (slots : List ℕ) (i : ℕ) (away : Bool) (out : List ℕ) (x : Served) where
   pub slot_away : away ≡ true → x ≡ ending s id slots i out → x ≡ slot_attended s id slots i away out
@@ -275,13 +275,13 @@ module _ (s : NetcodeServer) (slots : List ℕ) (id : ℕ) (out : List ℕ) (r :
     unready : served t slots out ≡ served (refused s (ready_refusal s (length slots))) slots out
     unready = ap (λ (y : Turn). served y slots out) e ∙ ap (λ (m : ℕ). served (refused s m) slots out) tested
 
-    not-0 : eqb (ready_refusal s (length slots)) 0 ≡ false
-    not-0 = ne_eqb (ready_refusal s (length slots)) 0 (λ z. n (tested ∙ z))
+    not_0 : eqb (ready_refusal s (length slots)) 0 ≡ false
+    not_0 = ne_eqb (ready_refusal s (length slots)) 0 (λ z. n (tested ∙ z))
 
-    pub attend-refused : (away : Bool) → served t slots out ≡ attended s slots id away out
+    pub attend_refused : (away : Bool) → served t slots out ≡ attended s slots id away out
     unfolding pick client_updated disconnected
-    attend-refused true = unready ∙ simp not-0
-    attend-refused false = unready ∙ simp not-0
+    attend_refused true = unready ∙ simp not_0
+    attend_refused false = unready ∙ simp not_0
 
   module _ (zero : r ≡ 0) (f : Found) (searched : f ≡ find_id slots s.set.slots id) where
     -- by what the search found
@@ -293,14 +293,14 @@ module _ (s : NetcodeServer) (slots : List ℕ) (id : ℕ) (out : List ℕ) (r :
     reached true = ap (ended_at s id slots out) searched ∙ simp (eq-eqb (ready_refusal s (length slots)) 0 (sym tested ∙ zero))
     reached false = ap (updated_at s id slots out) searched ∙ simp (eq-eqb (ready_refusal s (length slots)) 0 (sym tested ∙ zero))
 
-    pub attend-found : (i : ℕ) → f ≡ found.At i → (x : Served) (away : Bool) → x ≡ slot_attended s id slots i away out → x ≡ attended s slots id away out
+    pub attend_found : (i : ℕ) → f ≡ found.At i → (x : Served) (away : Bool) → x ≡ slot_attended s id slots i away out → x ≡ attended s slots id away out
     unfolding updated_at ended_at
-    attend-found i e x away g = g ∙ ap (by_found_lem away) (sym e) ∙ reached away
+    attend_found i e x away g = g ∙ ap (by_found_lem away) (sym e) ∙ reached away
 
     nobody : (away : Bool) → idly s slots out ≡ by_found_lem away found.Nothing
     unfolding pick updated_at ended_at
     nobody true = refl
     nobody false = refl
 
-    pub attend-missed : f ≡ found.Nothing → (t : Turn) → t ≡ answered s Nothing → (away : Bool) → served t slots out ≡ attended s slots id away out
-    attend-missed e t g away = ap (λ (y : Turn). served y slots out) g ∙ nobody away ∙ ap (by_found_lem away) (sym e) ∙ reached away
+    pub attend_missed : f ≡ found.Nothing → (t : Turn) → t ≡ answered s Nothing → (away : Bool) → served t slots out ≡ attended s slots id away out
+    attend_missed e t g away = ap (λ (y : Turn). served y slots out) g ∙ nobody away ∙ ap (by_found_lem away) (sym e) ∙ reached away

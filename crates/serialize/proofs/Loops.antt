@@ -23,8 +23,8 @@ module _ (d : List ℕ) (at : ℕ) (s : List ℕ) (n : ℕ) where
   fill_start = (omega arith, paste-zero d at s, refl)
 
   module _ (k : length s ≡ n) (r : List ℕ) (i : ℕ) (w : Filled d at s n r i) where
-    pub fill-turn : (v : ℕ) → v ≡ get_or s i 0 → at + n ≤ length d → i < n → Filled d at s n (set r (at + i) v) (i + 1)
-    fill-turn v q f h = (
+    pub fill_turn : (v : ℕ) → v ≡ get_or s i 0 → at + n ≤ length d → i < n → Filled d at s n (set r (at + i) v) (i + 1)
+    fill_turn v q f h = (
       omega arith,
       ap (λ (l : List ℕ). set l (at + i) v) w.1
           ∙ ap (λ (x : ℕ). set (paste d at s i) (at + i) x) q
@@ -43,7 +43,7 @@ module _ (d : List ℕ) (at : ℕ) (s : List ℕ) (n : ℕ) where
 
 module _ (d : List ℕ) (at : ℕ) (src : List ℕ) (from n : ℕ) (f : (at + n ≤ length d) × (from + n ≤ length src)) (r : List ℕ) (i : ℕ) (w : Filled d at (part src from n) n r i) where
   pub copy_turn : i < n → Filled d at (part src from n) n (set r (at + i) (get_or src (from + i) 0)) (i + 1)
-  copy_turn h = fill-turn d at (part src from n) n (length_part src from n f.1) r i w _ (sym (get_or_part src from n i h)) f.0 h
+  copy_turn h = fill_turn d at (part src from n) n (length_part src from n f.1) r i w _ (sym (get_or_part src from n i h)) f.0 h
 
   pub copy_end : n ≤ i → r ≡ splice d at (part src from n)
   copy_end h = fill_end d at (part src from n) n (length_part src from n f.1) r i w h
@@ -52,7 +52,7 @@ module _ (d : List ℕ) (at : ℕ) (src : List ℕ) (from n : ℕ) (f : (at + n 
 
 module _ (d : List ℕ) (at n : ℕ) (r : List ℕ) (i : ℕ) (w : Filled d at (zeros n) n r i) where
   pub zero_turn : at + n ≤ length d → i < n → Filled d at (zeros n) n (set r (at + i) 0) (i + 1)
-  zero_turn f h = fill-turn d at (zeros n) n (length-replicate n 0) r i w 0 (sym (get_or-replicate n i 0 0 h)) f h
+  zero_turn f h = fill_turn d at (zeros n) n (length-replicate n 0) r i w 0 (sym (get_or-replicate n i 0 0 h)) f h
 
   pub zero_end : n ≤ i → r ≡ splice d at (zeros n)
   zero_end h = fill_end d at (zeros n) n (length-replicate n 0) r i w h
@@ -61,7 +61,7 @@ module _ (d : List ℕ) (at n : ℕ) (r : List ℕ) (i : ℕ) (w : Filled d at (
 
 module _ (d : List ℕ) (at : ℕ) (src : List ℕ) (from n : ℕ) (r : List ℕ) (i : ℕ) (w : Filled d at (words n (drop from src)) n r i) where
   pub pack_turn : (v : ℕ) → v ≡ of_le (part src (from + i * 8) 8) → at + n ≤ length d → i < n → Filled d at (words n (drop from src)) n (set r (at + i) v) (i + 1)
-  pack_turn v q f h = fill-turn d at (words n (drop from src)) n (length_words n (drop from src)) r i w v (q ∙ sym (word_at n i from src h)) f h
+  pack_turn v q f h = fill_turn d at (words n (drop from src)) n (length_words n (drop from src)) r i w v (q ∙ sym (word_at n i from src h)) f h
 
   pub pack_end : n ≤ i → r ≡ splice d at (words n (drop from src))
   pack_end h = fill_end d at (words n (drop from src)) n (length_words n (drop from src)) r i w h

@@ -31,24 +31,24 @@ pub record Sum (t step c : Time) : Type 0 where
 
 module _ (t step : Time) where
   -- a sum is out of range or a clock, and which follows from its size
-  by-range : {A : Type 0} → (2 ^ 64 * second ≤ whole t + whole step → added t step ≡ OutOfRange → A) →
+  by_range : {A : Type 0} → (2 ^ 64 * second ≤ whole t + whole step → added t step ≡ OutOfRange → A) →
       (whole t + whole step < 2 ^ 64 * second → added t step ≡ Clock (clock (whole t + whole step)) → A) → A
-  by-range f g =
+  by_range f g =
       by_test (leb (2 ^ 64 * second) (whole t + whole step))
       (λ b. let h = leb-true (2 ^ 64 * second) (whole t + whole step) b in f h (added_over t step h))
       (λ b. let h = leb-false (2 ^ 64 * second) (whole t + whole step) b in g h (added_below t step h))
 
-  clock-sum : whole t + whole step < 2 ^ 64 * second → Sum t step (clock (whole t + whole step))
-  clock-sum h = record { exact = omega arith; small = omega arith; word = omega arith }
+  clock_sum : whole t + whole step < 2 ^ 64 * second → Sum t step (clock (whole t + whole step))
+  clock_sum h = record { exact = omega arith; small = omega arith; word = omega arith }
 
   pub added_clock : (c : Time) → added t step ≡ Clock c → Sum t step c
   added_clock c e =
-      by-range
+      by_range
       (λ h o. let z : ◌≡◌ {A = ℕ} 0 1 = cc in omega arith)
-      (λ h o. let k : clock (whole t + whole step) ≡ c = cc in rw k at (clock-sum h))
+      (λ h o. let k : clock (whole t + whole step) ≡ c = cc in rw k at (clock_sum h))
 
   over : added t step ≡ OutOfRange → 2 ^ 64 * second ≤ whole t + whole step
-  over e = by-range (λ h o. h) (λ h o. let z : ◌≡◌ {A = ℕ} 0 1 = cc in omega arith)
+  over e = by_range (λ h o. h) (λ h o. let z : ◌≡◌ {A = ℕ} 0 1 = cc in omega arith)
 
   pub added_out : (added t step ≡ OutOfRange) ↔ (2 ^ 64 * second ≤ whole t + whole step)
   added_out = (over, added_over t step)

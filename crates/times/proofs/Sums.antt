@@ -58,16 +58,16 @@ module _ (up give take rest : ℕ) (word : up < 2 ^ 64) where
       let q : rest ≡ rest + (up + give - take - min (up + give - take) 18446744073709551615) * second = omega arith in
       ap₂ time p q
 
-  fits-most : (fits : ℕ) → take < give → fits ≡ min (give - take) (18446744073709551615 - up) →
+  fits_most : (fits : ℕ) → take < give → fits ≡ min (give - take) (18446744073709551615 - up) →
       up + fits ≡ min (up + give - take) 18446744073709551615
-  fits-most fits h e = omega arith
+  fits_most fits h e = omega arith
 
   pub settle_up : (fits : ℕ) → take < give → fits ≡ min (give - take) (18446744073709551615 - up) →
       time (up + fits) (rest + (give - take - fits) * second) ≡ settled (up + give - take) rest
   unfolding settled
   settle_up fits h e =
       let q : give - take - fits ≡ up + give - take - (up + fits) = omega arith in
-      ap₂ (λ (x y : ℕ). time x (rest + y * second)) (fits-most fits h e) (q ∙ ap (λ (x : ℕ). up + give - take - x) (fits-most fits h e))
+      ap₂ (λ (x y : ℕ). time x (rest + y * second)) (fits_most fits h e) (q ∙ ap (λ (x : ℕ). up + give - take - x) (fits_most fits h e))
 
 -- the nanoseconds of t less those of then, each below a second, with what they borrow: below a second and not below 0
 pub record Apart (t then : Time) (one : ℕ) : Type 0 where

@@ -32,7 +32,7 @@ use Rattle.upkeep.specs.SetUps.{connect_key, begun, found, blank, lengths_refusa
 use Rattle.upkeep.specs.Fresh.{Fresh, Why, Lengths, Malformed, Range, Unstarted}
 use Rattle.upkeep.specs.Clocks as clocks
 use Rattle.upkeep.proofs.Tested.{Tested, tested, tests_exactly, slots_shaped, pending_shaped}
-use Rattle.upkeep.proofs.Ways.{set_up_stops, set-up-late, set-up-done, update_stops}
+use Rattle.upkeep.proofs.Ways.{set_up_stops, set_up_late, set_up_done, update_stops}
 
 pub by_sum : {A : Type 0} (a : Added) → ((t : Time) → a ≡ Clock t → A) → (a ≡ OutOfRange → A) → A
 by_sum (Clock t) f g = f t refl
@@ -82,11 +82,11 @@ module _ (c : ServerConfig) (slots pending entries public : List ℕ) where
       (λ b.
       let free : tests ≡ 0 = eqb-true tests 0 b in
       by_sum start
-      (λ t e. h free t e (set-up-done c slots pending entries public tests refl free zero refl start refl t e
+      (λ t e. h free t e (set_up_done c slots pending entries public tests refl free zero refl start refl t e
       (count slots) (count pending) (entry.count entries) refl refl refl
       (cleared slots (count slots)) (cleared pending (count pending)) (cleared entries (entry.count entries)) refl refl refl
       (found c slots pending entries public) refl (begun (found c slots pending entries public) c.max_clients t) refl))
-      (λ e. g free e (set-up-late c slots pending entries public tests refl free zero refl start refl e (not_set_up 20) refl)))
+      (λ e. g free e (set_up_late c slots pending entries public tests refl free zero refl start refl e (not_set_up 20) refl)))
       (λ b. let n = eqb-false tests 0 b in f n (set_up_stops c slots pending entries public tests refl n (not_set_up tests) refl))
 
   -- ---- set up
@@ -154,30 +154,30 @@ module _ (c : ServerConfig) (slots pending entries public : List ℕ) where
 
   -- ---- refused
 
-  lengths-why : (lengths_refusal c.max_clients slots pending entries public ≡ 0 → ⊥)
+  lengths_why : (lengths_refusal c.max_clients slots pending entries public ≡ 0 → ⊥)
       → lengths_refusal c.max_clients slots pending entries public ≡ 23
   unfolding lengths_refusal
-  lengths-why =
+  lengths_why =
       lengths_number (not (eqb (places_refusal slots 1024) 0)) (not (eqb (places_refusal pending 4096) 0))
       (not (eqb (entry.entriesRefusal entries) 0)) (not (eqb (length public % 3) 0)) (ltb (count slots) c.max_clients)
 
-  list-why : (listed.listRefusal public ≡ 0 → ⊥) → listed.listRefusal public ≡ 19
+  list_why : (listed.listRefusal public ≡ 0 → ⊥) → listed.listRefusal public ≡ 19
   unfolding listed.listRefusal
-  list-why = list_number (listed.isFound (listed.findMalformed public))
+  list_why = list_number (listed.isFound (listed.findMalformed public))
 
-  tests-why : (tests ≡ 0 → ⊥) → Why c slots pending entries public tests
+  tests_why : (tests ≡ 0 → ⊥) → Why c slots pending entries public tests
   unfolding before pick
-  tests-why n =
+  tests_why n =
       let l : ℕ = lengths_refusal c.max_clients slots pending entries public in
       let f : ℕ = listed.listRefusal public in
       by_test (eqb l 0)
       (λ b.
       let same : tests ≡ f = ap (λ (x : Bool). pick x f l) b in
-      let x : f ≡ 19 = list-why (λ z. n (same ∙ z)) in
+      let x : f ≡ 19 = list_why (λ z. n (same ∙ z)) in
       subst (Why c slots pending entries public) (sym (same ∙ x)) (Malformed (eqb-true l 0 b) x))
       (λ b.
       let same : tests ≡ l = ap (λ (x : Bool). pick x f l) b in
-      let x : l ≡ 23 = lengths-why (λ z. n (same ∙ z)) in
+      let x : l ≡ 23 = lengths_why (λ z. n (same ∙ z)) in
       subst (Why c slots pending entries public) (sym (same ∙ x)) (Lengths x))
 
   -- a set-up that refuses leaves the tables, and says by its number which test was the first to fail
@@ -185,7 +185,7 @@ module _ (c : ServerConfig) (slots pending entries public : List ℕ) where
       → Unstarted c slots pending entries public (set_up c slots pending entries public)
   set_up_refused n =
       by_end
-      (λ m e. subst (Unstarted c slots pending entries public) e (unstarted tests (tests-why m)))
+      (λ m e. subst (Unstarted c slots pending entries public) e (unstarted tests (tests_why m)))
       (λ free q e.
       let (l, f) = neither (lengths_refusal c.max_clients slots pending entries public) (listed.listRefusal public) free in
       subst (Unstarted c slots pending entries public) e (unstarted 20 (Range l f q)))

@@ -41,17 +41,17 @@ module _ (t : List ℕ) (n secs i : ℕ) where
 
   -- ---- the ways out of the call for one place; x is the expiry that was read
 
-  same-table : mark_left t n secs i ≡ get_or t i 0 → t ≡ set t i (mark_left t n secs i)
-  same-table e = sym (ap (set t i) e ∙ set-get_or t i 0)
+  same_table : mark_left t n secs i ≡ get_or t i 0 → t ≡ set t i (mark_left t n secs i)
+  same_table e = sym (ap (set t i) e ∙ set-get_or t i 0)
 
   pub empty_stays : get_or t i 0 ≡ 0 → t ≡ set t i (mark_left t n secs i)
-  empty_stays e = same-table (empty_left e)
+  empty_stays e = same_table (empty_left e)
 
   pub expired_goes : (get_or t i 0 ≡ 0 → ⊥) → (x : ℕ) → x ≡ word_of t (expiry_at n i) → x < secs → set t i 0 ≡ set t i (mark_left t n secs i)
   expired_goes u x e h = ap (set t i) (sym (expired_left (marked_used t i u) (omega arith)))
 
   pub lasting_stays : (x : ℕ) → x ≡ word_of t (expiry_at n i) → secs ≤ x → t ≡ set t i (mark_left t n secs i)
-  lasting_stays x e h = same-table (lasting_left (omega arith))
+  lasting_stays x e h = same_table (lasting_left (omega arith))
 
 -- ---- the marks of the first k places
 
@@ -96,9 +96,9 @@ module _ (t : List ℕ) (n secs : ℕ) where
     same_left =
         ap₂ (λ (x y : ℕ). pick (used_mark x && ltb y secs) 0 x) (kept i (omega arith)) (kept (expiry_at n i) (omega arith))
 
-    pub drop-turn : i < n → (v : List ℕ) → v ≡ set u i (mark_left u n secs i) → v ≡ splice t 0 (marks_left t n secs (i + 1))
+    pub drop_turn : i < n → (v : List ℕ) → v ≡ set u i (mark_left u n secs i) → v ≡ splice t 0 (marks_left t n secs (i + 1))
     unfolding marks_left
-    drop-turn b v f =
+    drop_turn b v f =
         let m : 0 + length (marks_left t n secs i) ≡ i = omega (arith, length_marks i) in
         f
         ∙ ap₂ (λ (x : List ℕ) (y : ℕ). set x i y) e same_left
@@ -109,8 +109,8 @@ module _ (t : List ℕ) (n secs : ℕ) where
     pub half_length : length u ≡ length t
     half_length = ap length e ∙ length_splice t 0 (marks_left t n secs i) fits
 
-    pub half-shaped : Shaped u n
-    half-shaped = record { few = shape.few; long = half_length ∙ shape.long }
+    pub half_shaped : Shaped u n
+    half_shaped = record { few = shape.few; long = half_length ∙ shape.long }
 
-    pub drop-end : n ≤ i → u ≡ splice t 0 (marks_left t n secs n)
-    drop-end b = let z : i ≡ n = omega arith in e ∙ ap (λ (j : ℕ). splice t 0 (marks_left t n secs j)) z
+    pub drop_end : n ≤ i → u ≡ splice t 0 (marks_left t n secs n)
+    drop_end b = let z : i ≡ n = omega arith in e ∙ ap (λ (j : ℕ). splice t 0 (marks_left t n secs j)) z

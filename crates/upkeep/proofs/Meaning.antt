@@ -30,8 +30,8 @@ use Rattle.server.specs.Ready.{length_refusal, call_refusal, pending_refusal, ki
 use Rattle.server.proofs.Inversions.{call_free, pending_shaped, open_refused, idle_passes, idle_only, idle_is_0}
 use Rattle.upkeep.specs.Clocks.{mark_left, marks_left, dropped, Outcome, done, update_refusal, updated}
 use Rattle.upkeep.specs.Limits.{limited}
-use Rattle.upkeep.proofs.Marks.{expired_left, lasting_left, length_marks, mark_at, half-shaped}
-use Rattle.upkeep.proofs.Ways.{update_stops, update-late, update-done, limit_stops, limit_done}
+use Rattle.upkeep.proofs.Marks.{expired_left, lasting_left, length_marks, mark_at, half_shaped}
+use Rattle.upkeep.proofs.Ways.{update_stops, update_late, update_done, limit_stops, limit_done}
 use Rattle.upkeep.proofs.Begun.{by_sum}
 
 -- ---- what is dropped
@@ -47,7 +47,7 @@ left_used m past = by (used_mark m) past refl
 
 module _ (t : List ℕ) (n secs : ℕ) (shape : Shaped t n) where
   pub dropped_shaped : Shaped (dropped t n secs) n
-  dropped_shaped = half-shaped t n secs shape (dropped t n secs) n (omega arith) refl
+  dropped_shaped = half_shaped t n secs shape (dropped t n secs) n (omega arith) refl
 
   pub dropped_mark : (i : ℕ) → i < n → get_or (dropped t n secs) i 0 ≡ mark_left t n secs i
   dropped_mark i h =
@@ -67,16 +67,16 @@ module _ (t : List ℕ) (n secs : ℕ) (shape : Shaped t n) where
       )
 
   -- every other field keeps its words
-  past-marks : (c : Column) (j : ℕ) → (c ≡ Marks → ⊥) → n ≤ column_at c n j
-  past-marks Marks j d = absurd (d refl)
-  past-marks Ids j d = omega arith
-  past-marks Addresses j d = omega arith
-  past-marks Bodies j d = omega arith
+  past_marks : (c : Column) (j : ℕ) → (c ≡ Marks → ⊥) → n ≤ column_at c n j
+  past_marks Marks j d = absurd (d refl)
+  past_marks Ids j d = omega arith
+  past_marks Addresses j d = omega arith
+  past_marks Bodies j d = omega arith
 
   pub dropped_fields : (f : Field) → Within f → (f.column ≡ Marks → ⊥) → (j : ℕ) → j < n → field_of (dropped t n secs) n j f ≡ field_of t n j f
   dropped_fields f w d j h =
       let k : length (marks_left t n secs n) ≡ n = length_marks t n secs n in
-      let l : n ≤ column_at f.column n j = past-marks f.column j d in
+      let l : n ≤ column_at f.column n j = past_marks f.column j d in
       part_splice_after t 0 (marks_left t n secs n) (field_at f n j) f.size (field_inside f t n j shape w h) (omega arith)
 
   -- so used addresses, and used ids, stay distinct
@@ -158,9 +158,9 @@ module _ (s : NetcodeServer) (pending : List ℕ) (duration : Time) where
       (λ b.
       let free : tests ≡ 0 = eqb-true tests 0 b in
       by_sum (added s.current_time duration)
-      (λ t e. h free t e (update-done s pending duration tables refl tests refl free (added s.current_time duration) refl t e
+      (λ t e. h free t e (update_done s pending duration tables refl tests refl free (added s.current_time duration) refl t e
       (dropped pending s.set.pending t.secs) refl (with_clock s t) refl))
-      (λ e. g free e (update-late s pending duration tables refl tests refl free (added s.current_time duration) refl e)))
+      (λ e. g free e (update_late s pending duration tables refl tests refl free (added s.current_time duration) refl e)))
       (λ b. let n = eqb-false tests 0 b in f n (update_stops s pending duration tables refl tests refl n))
 
   pub update_moves : (updated s pending duration).result.answer ≡ Nothing → Moved s pending duration (updated s pending duration)
@@ -191,24 +191,24 @@ module _ (s : NetcodeServer) (pending : List ℕ) (duration : Time) where
 
   -- ---- refused
 
-  length-number : (a b d : Bool) → (pick {A = ℕ} a 23 (pick b 23 (pick d 0 23)) ≡ 0 → ⊥) → pick {A = ℕ} a 23 (pick b 23 (pick d 0 23)) ≡ 23
+  length_number : (a b d : Bool) → (pick {A = ℕ} a 23 (pick b 23 (pick d 0 23)) ≡ 0 → ⊥) → pick {A = ℕ} a 23 (pick b 23 (pick d 0 23)) ≡ 23
   unfolding pick
-  length-number true b d n = refl
-  length-number false true d n = refl
-  length-number false false true n = absurd (n refl)
-  length-number false false false n = refl
+  length_number true b d n = refl
+  length_number false true d n = refl
+  length_number false false true n = absurd (n refl)
+  length_number false false false n = refl
 
-  tables-why : (tables ≡ 0 → ⊥) → tables ≡ 23
+  tables_why : (tables ≡ 0 → ⊥) → tables ≡ 23
   unfolding length_refusal
-  tables-why = length-number (eqb s.set.pending 0) (ltb 4096 s.set.pending) (eqb (length pending) (s.set.pending * place_words))
+  tables_why = length_number (eqb s.set.pending 0) (ltb 4096 s.set.pending) (eqb (length pending) (s.set.pending * place_words))
 
-  tests-why : (tests ≡ 0 → ⊥) → Stopped s pending duration tests
-  tests-why n =
+  tests_why : (tests ≡ 0 → ⊥) → Stopped s pending duration tests
+  tests_why n =
       by_test (eqb (kind_of s.ask.stage) 0)
       (λ b.
       let idle = idle_only s.ask.stage (eqb-true (kind_of s.ask.stage) 0 b) in
       let same : tests ≡ tables = idle_passes s.ask tables idle in
-      let x : tables ≡ 23 = tables-why (λ z. n (same ∙ z)) in
+      let x : tables ≡ 23 = tables_why (λ z. n (same ∙ z)) in
       subst (Stopped s pending duration) (sym (same ∙ x)) (Tables idle x))
       (λ b.
       let asked : s.ask.stage ≡ Idle → ⊥ = λ e. eqb-false (kind_of s.ask.stage) 0 b (idle_is_0 s.ask.stage e) in
@@ -219,7 +219,7 @@ module _ (s : NetcodeServer) (pending : List ℕ) (duration : Time) where
       → (updated s pending duration ≡ done (refused s n) pending) × Stopped s pending duration n
   update_refused n z =
       by_end
-      (λ m e. stopped tests e (tests-why m))
+      (λ m e. stopped tests e (tests_why m))
       (λ free q e. stopped 20 e (let (idle, tabled) = call_free s.ask tables free in Late idle tabled q))
       (λ free t q e. absurd (answers_differ n (sym (ap (λ (o : Outcome). o.result.answer) e ∙ z))))
     where

@@ -16,7 +16,7 @@ use Rattle.entries.proofs.Meaning.{taken_shaped, shaped_taken}
 use Rattle.server.proofs.Inversions.{Taken, neither}
 use Rattle.server.proofs.Ways.{second_decides}
 use Rattle.upkeep.specs.SetUps.{lengths_refusal, set_up_refusal}
-use Rattle.upkeep.proofs.Ways.{lengths-pass}
+use Rattle.upkeep.proofs.Ways.{lengths_pass}
 
 -- ---- a table's length
 
@@ -91,14 +91,14 @@ module _ (limit : ℕ) (slots pending entries public : List ℕ) (r : ℕ) (gave
   entries_shaped n e = subst (entry.Shaped entries) (sym e) tested.entered
 
 module _ (limit : ℕ) (slots pending entries public : List ℕ) where
-  tests-pass : Tested limit slots pending entries public → set_up_refusal limit slots pending entries public ≡ 0
-  tests-pass k =
+  tests_pass : Tested limit slots pending entries public → set_up_refusal limit slots pending entries public ≡ 0
+  tests_pass k =
       let even : length public % 3 ≡ 0 = omega (arith, k.even) in
       let e : 0 ≡ lengths_refusal limit slots pending entries public =
-      lengths-pass limit slots pending entries public (places_refusal slots 1024) refl (places_pass slots 1024 k.slotted)
+      lengths_pass limit slots pending entries public (places_refusal slots 1024) refl (places_pass slots 1024 k.slotted)
       (places_refusal pending 4096) refl (places_pass pending 4096 k.waiting)
       (entry.entriesRefusal entries) refl (shaped_taken entries (entry.count entries) k.entered).0 even (count slots) refl k.within in
       sym (second_decides (lengths_refusal limit slots pending entries public) (listed.listRefusal public) 0 e refl 0 (sym k.formed))
 
   pub tests_exactly : (set_up_refusal limit slots pending entries public ≡ 0) ↔ Tested limit slots pending entries public
-  tests_exactly = (tested limit slots pending entries public (set_up_refusal limit slots pending entries public) refl, tests-pass)
+  tests_exactly = (tested limit slots pending entries public (set_up_refusal limit slots pending entries public) refl, tests_pass)

@@ -34,39 +34,39 @@ module _ (limit : ℕ) (slots pending entries public : List ℕ) (s : ℕ) (ts :
   slots_refused n = simp (ne_eqb (places_refusal slots 1024) 0 (λ z. n (ts ∙ z)))
 
   module _ (zs : s ≡ 0) (p : ℕ) (tp : p ≡ places_refusal pending 4096) where
-    slots-pass : eqb (places_refusal slots 1024) 0 ≡ true
-    slots-pass = eq-eqb (places_refusal slots 1024) 0 (sym ts ∙ zs)
+    slots_pass : eqb (places_refusal slots 1024) 0 ≡ true
+    slots_pass = eq-eqb (places_refusal slots 1024) 0 (sym ts ∙ zs)
 
-    pub pending-refused : (p ≡ 0 → ⊥) → 23 ≡ lengths_refusal limit slots pending entries public
+    pub pending_refused : (p ≡ 0 → ⊥) → 23 ≡ lengths_refusal limit slots pending entries public
     unfolding lengths_refusal pick
-    pending-refused n = simp (slots-pass, ne_eqb (places_refusal pending 4096) 0 (λ z. n (tp ∙ z)))
+    pending_refused n = simp (slots_pass, ne_eqb (places_refusal pending 4096) 0 (λ z. n (tp ∙ z)))
 
     module _ (zp : p ≡ 0) (e : ℕ) (te : e ≡ entry.entriesRefusal entries) where
-      pending-pass : eqb (places_refusal pending 4096) 0 ≡ true
-      pending-pass = eq-eqb (places_refusal pending 4096) 0 (sym tp ∙ zp)
+      pending_pass : eqb (places_refusal pending 4096) 0 ≡ true
+      pending_pass = eq-eqb (places_refusal pending 4096) 0 (sym tp ∙ zp)
 
-      pub entries-refused : (e ≡ 0 → ⊥) → 23 ≡ lengths_refusal limit slots pending entries public
+      pub entries_refused : (e ≡ 0 → ⊥) → 23 ≡ lengths_refusal limit slots pending entries public
       unfolding lengths_refusal pick
-      entries-refused n = simp (slots-pass, pending-pass, ne_eqb (entry.entriesRefusal entries) 0 (λ z. n (te ∙ z)))
+      entries_refused n = simp (slots_pass, pending_pass, ne_eqb (entry.entriesRefusal entries) 0 (λ z. n (te ∙ z)))
 
       module _ (ze : e ≡ 0) where
-        entries-pass : eqb (entry.entriesRefusal entries) 0 ≡ true
-        entries-pass = eq-eqb (entry.entriesRefusal entries) 0 (sym te ∙ ze)
+        entries_pass : eqb (entry.entriesRefusal entries) 0 ≡ true
+        entries_pass = eq-eqb (entry.entriesRefusal entries) 0 (sym te ∙ ze)
 
         pub list_uneven : (length public % 3 ≡ 0 → ⊥) → 23 ≡ lengths_refusal limit slots pending entries public
         unfolding lengths_refusal pick
-        list_uneven n = simp (slots-pass, pending-pass, entries-pass, ne_eqb (length public % 3) 0 n)
+        list_uneven n = simp (slots_pass, pending_pass, entries_pass, ne_eqb (length public % 3) 0 n)
 
         module _ (zl : length public % 3 ≡ 0) (n : ℕ) (tn : n ≡ count slots) where
-          pub limit-over : n < limit → 23 ≡ lengths_refusal limit slots pending entries public
+          pub limit_over : n < limit → 23 ≡ lengths_refusal limit slots pending entries public
           unfolding lengths_refusal pick
-          limit-over h =
-              simp (slots-pass, pending-pass, entries-pass, eq-eqb (length public % 3) 0 zl, lt-ltb (count slots) limit (omega arith))
+          limit_over h =
+              simp (slots_pass, pending_pass, entries_pass, eq-eqb (length public % 3) 0 zl, lt-ltb (count slots) limit (omega arith))
 
-          pub lengths-pass : limit ≤ n → 0 ≡ lengths_refusal limit slots pending entries public
+          pub lengths_pass : limit ≤ n → 0 ≡ lengths_refusal limit slots pending entries public
           unfolding lengths_refusal pick
-          lengths-pass h =
-              simp (slots-pass, pending-pass, entries-pass, eq-eqb (length public % 3) 0 zl, le-ltb (count slots) limit (omega arith))
+          lengths_pass h =
+              simp (slots_pass, pending_pass, entries_pass, eq-eqb (length public % 3) 0 zl, le-ltb (count slots) limit (omega arith))
 
 -- ---- set-up: r is what its tests gave, a the start time as the clock keeps it
 
@@ -90,17 +90,17 @@ module _ (c : ServerConfig) (slots pending entries public : List ℕ) (r : ℕ)
         ap (by_clock c slots pending entries public) (f ∙ ap (λ (x : Time). added x c.current_time) e)
         ∙ sym (ap way (eq-eqb tests 0 (sym tested ∙ free)))
 
-    pub set-up-late : a ≡ OutOfRange → (s : Started) → s ≡ not_set_up 20 → done s slots pending entries ≡ set_up c slots pending entries public
+    pub set_up_late : a ≡ OutOfRange → (s : Started) → s ≡ not_set_up 20 → done s slots pending entries ≡ set_up c slots pending entries public
     unfolding by_clock
-    set-up-late g s h =
+    set_up_late g s h =
         ap (λ (x : Started). done x slots pending entries) h ∙ ap (by_clock c slots pending entries public) (sym g) ∙ goes_on
 
-    pub set-up-done : (clock : Time) → a ≡ Clock clock → (n m k : ℕ) → n ≡ count slots → m ≡ count pending → k ≡ entry.count entries
+    pub set_up_done : (clock : Time) → a ≡ Clock clock → (n m k : ℕ) → n ≡ count slots → m ≡ count pending → k ≡ entry.count entries
         → (u v w : List ℕ) → u ≡ cleared slots n → v ≡ cleared pending m → w ≡ cleared entries k
         → (set : SetUp) → set ≡ fixed_as c n m k (length public / 3) → (s : NetcodeServer) → s ≡ begun set c.max_clients clock
         → done (record { refusal = 0; server = s }) u v w ≡ set_up c slots pending entries public
     unfolding by_clock
-    set-up-done clock g n m k en em ek u v w eu ev ew set es s eb =
+    set_up_done clock g n m k en em ek u v w eu ev ew set es s eb =
         laid ∙ ap (by_clock c slots pending entries public) (sym g) ∙ goes_on
       where
         laid : done (record { refusal = 0; server = s }) u v w ≡ by_clock c slots pending entries public (Clock clock)
@@ -125,18 +125,18 @@ module _ (s : NetcodeServer) (pending : List ℕ) (duration : Time) (t : ℕ) (t
       ap (λ (x : ℕ). clocks.done (refused s x) pending) same_refusal ∙ sym (ap move (ne_eqb refusal 0 (λ z. n (same_refusal ∙ z))))
 
   module _ (free : r ≡ 0) (a : Added) (f : a ≡ added s.current_time duration) where
-    moves-on : clocks.byClock s pending a ≡ clocks.updated s pending duration
+    moves_on : clocks.byClock s pending a ≡ clocks.updated s pending duration
     unfolding clocks.updated pick
-    moves-on = ap (clocks.byClock s pending) f ∙ sym (ap move (eq-eqb refusal 0 (sym same_refusal ∙ free)))
+    moves_on = ap (clocks.byClock s pending) f ∙ sym (ap move (eq-eqb refusal 0 (sym same_refusal ∙ free)))
 
-    pub update-late : a ≡ OutOfRange → clocks.done (refused s 20) pending ≡ clocks.updated s pending duration
+    pub update_late : a ≡ OutOfRange → clocks.done (refused s 20) pending ≡ clocks.updated s pending duration
     unfolding clocks.byClock
-    update-late g = ap (clocks.byClock s pending) (sym g) ∙ moves-on
+    update_late g = ap (clocks.byClock s pending) (sym g) ∙ moves_on
 
-    pub update-done : (clock : Time) → a ≡ Clock clock → (u : List ℕ) → u ≡ clocks.dropped pending s.set.pending clock.secs
+    pub update_done : (clock : Time) → a ≡ Clock clock → (u : List ℕ) → u ≡ clocks.dropped pending s.set.pending clock.secs
         → (n : NetcodeServer) → n ≡ with_clock s clock → clocks.done (step n Nothing) u ≡ clocks.updated s pending duration
     unfolding clocks.byClock
-    update-done clock g u e n h = laid ∙ ap (clocks.byClock s pending) (sym g) ∙ moves-on
+    update_done clock g u e n h = laid ∙ ap (clocks.byClock s pending) (sym g) ∙ moves_on
       where
         laid : clocks.done (step n Nothing) u ≡ clocks.byClock s pending (Clock clock)
         laid = simp (e, h)
@@ -144,15 +144,15 @@ module _ (s : NetcodeServer) (pending : List ℕ) (duration : Time) (t : ℕ) (t
 -- ---- the limit: r is what the call's test gave
 
 module _ (s : NetcodeServer) (wish r : ℕ) (tested : r ≡ call_refusal s.ask 0) where
-  abbrev limit-way : Bool → Step
-  limit-way b = pick b (step (with_limit s (min wish 1024)) Nothing) (refused s (call_refusal s.ask 0))
+  abbrev limit_way : Bool → Step
+  limit_way b = pick b (step (with_limit s (min wish 1024)) Nothing) (refused s (call_refusal s.ask 0))
 
   pub limit_stops : (r ≡ 0 → ⊥) → refused s r ≡ limited s wish
   unfolding limited pick
-  limit_stops n = ap (refused s) tested ∙ sym (ap limit-way (ne_eqb (call_refusal s.ask 0) 0 (λ z. n (tested ∙ z))))
+  limit_stops n = ap (refused s) tested ∙ sym (ap limit_way (ne_eqb (call_refusal s.ask 0) 0 (λ z. n (tested ∙ z))))
 
   pub limit_done : r ≡ 0 → (k : ℕ) → k ≡ min wish 1024 → (n : NetcodeServer) → n ≡ with_limit s k → step n Nothing ≡ limited s wish
   unfolding limited pick
   limit_done free k e n h =
       ap (λ (x : NetcodeServer). step x Nothing) (h ∙ ap (with_limit s) e)
-      ∙ sym (ap limit-way (eq-eqb (call_refusal s.ask 0) 0 (sym tested ∙ free)))
+      ∙ sym (ap limit_way (eq-eqb (call_refusal s.ask 0) 0 (sym tested ∙ free)))

@@ -37,15 +37,15 @@ same_keeps : (f g : Place → View) (q : Place) → g q ≡ f q → (g q).used �
 same_keeps f g q e u = (ap (λ (v : View). v.used) (sym e) ∙ u, ap (λ (v : View). v.addr) e)
 
 module _ (ins : Place → Bool) (f g : Place → View) (apart : Apart ins f) where
-  keeps-apart : ((q : Place) → (g q).used ≡ true → Keeps f g q) → Apart ins g
-  keeps-apart k = record {
+  keeps_apart : ((q : Place) → (g q).used ≡ true → Keeps f g q) → Apart ins g
+  keeps_apart k = record {
     within = λ p u. apart.within p (k p u).0;
     distinct = λ p q u v e. apart.distinct p q (k p u).0 (k q v).0 (sym (k p u).1 ∙ e ∙ (k q v).1);
   }
 
   -- a record is made at p
-  made-apart : (p : Place) → ins p ≡ true → ((q : Place) → (f q).used ≡ true → (f q).addr ≡ (g p).addr → ⊥) → Others f g p → Apart ins g
-  made-apart p i none o = record {
+  made_apart : (p : Place) → ins p ≡ true → ((q : Place) → (f q).used ≡ true → (f q).addr ≡ (g p).addr → ⊥) → Others f g p → Apart ins g
+  made_apart p i none o = record {
     within = λ q u. by_place_lem p q (λ e. ap ins (sym e) ∙ i) (λ d. apart.within q (same_keeps f g q (o q d) u).0);
     distinct = λ a b u v e.
         by_place_lem p a
@@ -85,16 +85,16 @@ module _ (ins : Place → Bool) (f g : Place → View) (apart : Apart ins f) whe
     }
 
   pub effect_apart : (e : Told) → Effect ins f e g → Apart ins g
-  effect_apart e (kept n s) = keeps-apart (λ q u. same_keeps f g q (stayed (s q) u) u)
+  effect_apart e (kept n s) = keeps_apart (λ q u. same_keeps f g q (stayed (s q) u) u)
   effect_apart e (took p sequence n used passes s o) =
-      keeps-apart
+      keeps_apart
       (λ q u.
       by_place_lem p q
       (λ x.
       let v : (g p).used ≡ true = ap (λ (r : Place). (g r).used) x ∙ u in
       (ap (λ (r : Place). (f r).used) (sym x) ∙ used, ap (λ (r : Place). (g r).addr) (sym x) ∙ ap (λ (w : View). w.addr) (stayed s v) ∙ ap (λ (r : Place). (f r).addr) x))
       (λ d. same_keeps f g q (o q d) u))
-  effect_apart e (made j n i free used win none o) = made-apart (Pend j) i none o
+  effect_apart e (made j n i free used win none o) = made_apart (Pend j) i none o
   effect_apart e (moved j i n into from to left whole o) = moved_apart (Pend j) (Slot i) into from left whole o
 
 -- so a good state stays good

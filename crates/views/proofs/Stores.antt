@@ -30,7 +30,7 @@ use Rattle.places.proofs.Searches.{word_of_lem}
 use Rattle.places.proofs.Ways.{empty_unused}
 use Rattle.records.specs.declared.Connection.{Connection}
 use Rattle.records.specs.Records.{put_time, body_of, filled, emptied, moved}
-use Rattle.records.proofs.Kept.{placed_elsewhere, window-elsewhere, window_same}
+use Rattle.records.proofs.Kept.{placed_elsewhere, window_elsewhere, window_same}
 use Rattle.records.proofs.ReadBack.{emptied_rest, placed_used, placed_address, placed_id, placed_body, moved_body, moved_address, moved_id}
 use Rattle.records.proofs.Invariants.{emptied-mark}
 use Rattle.views.specs.Views.{View, view, nobody, standing, gone, advanced, here, view_at}
@@ -216,11 +216,11 @@ module _ (t : List ℕ) (n i : ℕ) (shape : Shaped t n) (inside : i < n) (seque
   full = length_arrive width (window_at width t (window_place n i)) sequence ∙ length_part t (window_place n i + 1) width (omega (arith, shape.long))
 
   pub arrived_else : Elsewhere n i t (arrived t n i sequence)
-  arrived_else = window-elsewhere t n i shape inside (arrive width (window_at width t (window_place n i)) sequence) full
+  arrived_else = window_elsewhere t n i shape inside (arrive width (window_at width t (window_place n i)) sequence) full
 
-  key-kept : field_of (arrived t n i sequence) n i columns.receive_key ≡ field_of t n i columns.receive_key
+  key_kept : field_of (arrived t n i sequence) n i columns.receive_key ≡ field_of t n i columns.receive_key
   unfolding put_window
-  key-kept =
+  key_kept =
       let win = arrive width (window_at width t (window_place n i)) sequence in
       put_elsewhere t n i i shape columns.window columns.receive_key (omega arith) (omega arith) inside inside (λ x q a b y. omega arith) (win.most ∷ win.ring) (omega (arith, full))
 
@@ -230,7 +230,7 @@ module _ (t : List ℕ) (n i : ℕ) (shape : Shaped t n) (inside : i < n) (seque
       let win = arrive width (window_at width t (window_place n i)) sequence in
       let c = window_same t n i shape inside win full in
       view_inside u n i inside
-      ∙ view_parts (used_alike n i t u (c.marks i inside)) (c.addresses i inside) key-kept (c.ids i inside)
+      ∙ view_parts (used_alike n i t u (c.marks i inside)) (c.addresses i inside) key_kept (c.ids i inside)
       (arrived_loads width t (window_place n i) sequence (omega (arith, shape.long)))
       ∙ ap (λ (v : View). advanced v sequence) (sym (view_inside t n i inside))
 
@@ -266,29 +266,29 @@ module _ (t : List ℕ) (n i : ℕ) (shape : Shaped t n) (inside : i < n) where
     body_run : (o s : ℕ) → Within (field Bodies o s) → field_of (filled t n i c) n i (field Bodies o s) ≡ part (body_of c) o s
     body_run = placed_body t n i shape inside c.client_id (words_of c.addr) (body_of c) refl whole
 
-    win-run : window_in (part (body_of c) 48 (1 + width)) ≡ window_of c.replay_protection
+    win_run : window_in (part (body_of c) 48 (1 + width)) ≡ window_of c.replay_protection
     unfolding window_in body_of words
-    win-run =
+    win_run =
         let w = window_of c.replay_protection in
         ap (window w.most) (ap (take width) (take_all width w.ring (omega (arith, full))) ∙ take_all width w.ring (omega (arith, full)))
 
-    key-run : part (body_of c) 5 4 ≡ words 4 c.receive_key
+    key_run : part (body_of c) 5 4 ≡ words 4 c.receive_key
     unfolding body_of words
-    key-run = refl
+    key_run = refl
 
-    pub filled-here : view_at (filled t n i c) n i ≡ view true (words_of c.addr) (words 4 c.receive_key) (c.client_id ∷ []) (window_of c.replay_protection)
-    filled-here =
+    pub filled_here : view_at (filled t n i c) n i ≡ view true (words_of c.addr) (words 4 c.receive_key) (c.client_id ∷ []) (window_of c.replay_protection)
+    filled_here =
         let u = filled t n i c in
         view_inside u n i inside
         ∙ view_parts
         (placed_used t n i shape inside c.client_id (words_of c.addr) (body_of c) refl whole)
         (placed_address t n i shape inside c.client_id (words_of c.addr) (body_of c) refl whole)
-        (body_run 5 4 (omega arith) ∙ key-run)
+        (body_run 5 4 (omega arith) ∙ key_run)
         (placed_id t n i shape inside c.client_id (words_of c.addr) (body_of c) refl whole)
-        (window_of_lem u n i ∙ ap window_in (body_run 48 (1 + width) (omega arith)) ∙ win-run)
+        (window_of_lem u n i ∙ ap window_in (body_run 48 (1 + width) (omega arith)) ∙ win_run)
 
-    pub filled-else : Elsewhere n i t (filled t n i c)
-    filled-else = placed_elsewhere t n i shape inside c.client_id (words_of c.addr) (body_of c) refl whole
+    pub filled_else : Elsewhere n i t (filled t n i c)
+    filled_else = placed_elsewhere t n i shape inside c.client_id (words_of c.addr) (body_of c) refl whole
 
 -- ---- a record moved
 

@@ -1,13 +1,13 @@
 -- By what the tests gave, and then by the answer; where they gave 0 the tables are set-up's.
 use lib.ListN.{length}
 use Rattle.grants.proofs.Tests.{grantable}
-use Rattle.grants.proofs.Ways.{answer-refused, answer-yes, answer-no}
+use Rattle.grants.proofs.Ways.{answer_refused, answer_yes, answer_no}
 use Rattle.grants.proofs.answer_token.Goals as goal
 
 pub returns-then-refusal-ne0 : goal.returns-then-refusal-ne0
 returns-then-refusal-ne0 c =
     let a = c.args in
-    answer-refused a.server a.token a.list.now a.slots.now a.pending.now a.entries.now a.public.now a.held.now a.out.now (length a.datagram.now)
+    answer_refused a.server a.token a.list.now a.slots.now a.pending.now a.entries.now a.public.now a.held.now a.out.now (length a.datagram.now)
     a.given _ c.grant_refusal-refusal.ensures c.if-refusal-ne0.true _ c.refused.ensures
 
 pub grant-requires : goal.grant-requires
@@ -19,11 +19,11 @@ grant-requires c =
 pub returns-then-given : goal.returns-then-given
 returns-then-given c =
     let a = c.args in
-    answer-yes a.server a.token a.list.now a.slots.now a.pending.now a.entries.now a.public.now a.held.now a.out.now (length a.datagram.now)
+    answer_yes a.server a.token a.list.now a.slots.now a.pending.now a.entries.now a.public.now a.held.now a.out.now (length a.datagram.now)
     a.given _ c.grant_refusal-refusal.ensures c.if-refusal-ne0.false c.if-given.true _ _ _ _ _ c.grant.ensures
 
 pub returns : goal.returns
 returns c =
     let a = c.args in
-    answer-no a.server a.token a.list.now a.slots.now a.pending.now a.entries.now a.public.now a.held.now a.out.now (length a.datagram.now)
+    answer_no a.server a.token a.list.now a.slots.now a.pending.now a.entries.now a.public.now a.held.now a.out.now (length a.datagram.now)
     a.given _ c.grant_refusal-refusal.ensures c.if-refusal-ne0.false c.if-given.false _ c.closed.ensures

@@ -1,7 +1,7 @@
 -- Refused, or a yes by the ask's stage, or a no; what the tests let through is what a yes needs.
 use lib.ListN.{length}
 use Rattle.turns.specs.Outcomes.{state}
-use Rattle.opens.proofs.Ways.{answer_ready, answer_stops, answer-granted, answer-declined}
+use Rattle.opens.proofs.Ways.{answer_ready, answer_stops, answer_granted, answer_declined}
 use Rattle.opens.proofs.answer_open.Goals as goal
 
 pub returns-then-refusal-ne0 : goal.returns-then-refusal-ne0
@@ -19,11 +19,11 @@ opened-requires c =
 pub returns-then-granted : goal.returns-then-granted
 returns-then-granted c =
     let a = c.args in
-    answer-granted (state a.server a.slots.now a.pending.now) a.granted a.held.now a.out.now a.datagram.now _
+    answer_granted (state a.server a.slots.now a.pending.now) a.granted a.held.now a.out.now a.datagram.now _
     c.answer_refusal-refusal.ensures c.if-refusal-ne0.false c.if-granted.true _ _ _ _ _ c.opened.ensures
 
 pub returns : goal.returns
 returns c =
     let a = c.args in
-    answer-declined (state a.server a.slots.now a.pending.now) a.granted a.held.now a.out.now a.datagram.now _
+    answer_declined (state a.server a.slots.now a.pending.now) a.granted a.held.now a.out.now a.datagram.now _
     c.answer_refusal-refusal.ensures c.if-refusal-ne0.false c.if-granted.false _ c.closed.ensures

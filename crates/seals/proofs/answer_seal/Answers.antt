@@ -3,13 +3,13 @@ use mathlib.Core.Path.{sym, ◌∙◌}
 use lib.ListN.{length}
 use Rattle.server.specs.Ready.{both_refusal}
 use Rattle.server.proofs.Inversions.{answer_fits, both_shaped}
-use Rattle.seals.proofs.Ways.{seals-refused, seals-answers}
+use Rattle.seals.proofs.Ways.{seals_refused, seals_answers}
 use Rattle.seals.proofs.answer_seal.Goals as goal
 
 pub returns-then-refusal-ne0 : goal.returns-then-refusal-ne0
 returns-then-refusal-ne0 c =
     let a = c.args in
-    seals-refused a.server a.slots.now a.pending.now a.granted a.held.now (length a.out.now)
+    seals_refused a.server a.slots.now a.pending.now a.granted a.held.now (length a.out.now)
     _ c.seal_refusal-refusal.ensures c.if-refusal-ne0.true _ c.refused.ensures
 
 pub by_stage-requires : goal.by_stage-requires
@@ -24,5 +24,5 @@ by_stage-requires c =
 pub returns : goal.returns
 returns c =
     let a = c.args in
-    seals-answers a.server a.slots.now a.pending.now a.granted a.held.now (length a.out.now)
+    seals_answers a.server a.slots.now a.pending.now a.granted a.held.now (length a.out.now)
     _ c.seal_refusal-refusal.ensures c.if-refusal-ne0.false _ _ _ c.by_stage.ensures

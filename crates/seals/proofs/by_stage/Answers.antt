@@ -1,6 +1,6 @@
 -- Each arm is a case of the definition; a seal that fits has its goal's places and a counter that can be raised.
 use Prim.Native.Nat.{◌^◌, ◌<◌}
-use Rattle.seals.proofs.Ways.{seal_fits, idle_refused, packet_refused, token_refused, challenge_refused, host-grants, host-denies}
+use Rattle.seals.proofs.Ways.{seal_fits, idle_refused, packet_refused, token_refused, challenge_refused, host_grants, host_denies}
 use borrow.Author.Rules.{rules}
 use Rattle.seals.proofs.by_stage.Goals as goal
 
@@ -14,7 +14,7 @@ sealed-requires c =
 pub returns-then-granted : goal.returns-then-granted
 returns-then-granted c =
     let a = c.args in
-    host-grants a.server a.slots.now a.pending.now a.granted a.held.now a.out
+    host_grants a.server a.slots.now a.pending.now a.granted a.held.now a.out
     _ _ _ c.in-Seal.is c.if-granted.true _ _ _ c.sealed.ensures
 
 pub returns-in-Idle : goal.returns-in-Idle
@@ -40,5 +40,5 @@ returns-in-Challenge c =
 pub returns-else-granted : goal.returns-else-granted
 returns-else-granted c =
     let a = c.args in
-    host-denies a.server a.slots.now a.pending.now a.granted a.held.now a.out
+    host_denies a.server a.slots.now a.pending.now a.granted a.held.now a.out
     _ _ _ c.in-Seal.is c.if-granted.false _ c.unsealed.ensures

@@ -1,7 +1,7 @@
 -- By the version, then by the protocol, then by the expiry.
 use Prim.Native.Nat.{◌≤◌}
 use native.Mathlib.Omega.{arith}
-use Rattle.arrivals.proofs.Ways.{other_version, other-protocol, expired, in-time}
+use Rattle.arrivals.proofs.Ways.{other_version, other_protocol, expired, in_time}
 use Rattle.arrivals.proofs.requests.request_refusal.Goals as goal
 
 pub returns-then-not-same_bytes : goal.returns-then-not-same_bytes
@@ -12,7 +12,7 @@ returns-then-not-same_bytes c =
 pub returns-then-read_u64-set : goal.returns-then-read_u64-set
 returns-then-read_u64-set c =
     let a = c.args in
-    other-protocol a.server a.datagram.now _ c.same_bytes.ensures c.if-not-same_bytes.false _ c.read_u64.ensures c.if-read_u64-set.true
+    other_protocol a.server a.datagram.now _ c.same_bytes.ensures c.if-not-same_bytes.false _ c.read_u64.ensures c.if-read_u64-set.true
 
 pub returns-then-now-read_u64 : goal.returns-then-now-read_u64
 returns-then-now-read_u64 c =
@@ -23,4 +23,4 @@ returns-then-now-read_u64 c =
 pub returns : goal.returns
 returns c =
     let a = c.args in
-    in-time a.server a.datagram.now _ c.same_bytes.ensures c.if-not-same_bytes.false _ c.read_u64.ensures c.if-read_u64-set.false _ c.read_u64-2.ensures c.if-now-read_u64.false
+    in_time a.server a.datagram.now _ c.same_bytes.ensures c.if-not-same_bytes.false _ c.read_u64.ensures c.if-read_u64-set.false _ c.read_u64-2.ensures c.if-now-read_u64.false

@@ -1,11 +1,11 @@
 -- What the head's reading gave decides.
-use Rattle.arrivals.proofs.Ways.{head-refused, head_read}
+use Rattle.arrivals.proofs.Ways.{head_refused, head_read}
 use Rattle.arrivals.proofs.sealed.read_sealed.Goals as goal
 
 pub returns-in-Refused : goal.returns-in-Refused
 returns-in-Refused c =
     let a = c.args in
-    head-refused a.server a.table.now a.n a.connected a.i a.kind a.out a.datagram.now
+    head_refused a.server a.table.now a.n a.connected a.i a.kind a.out a.datagram.now
     _ c.read_start.ensures _ c.in-Refused.is _ c.refused.ensures
 
 pub returns-in-At : goal.returns-in-At

@@ -1,5 +1,5 @@
 -- Silently nothing by the first test, or by what the entry says.
-use Rattle.grants.proofs.Ways.{ignored, let-in, shut_out}
+use Rattle.grants.proofs.Ways.{ignored, let_in, shut_out}
 use Rattle.grants.proofs.tokens.consider.Goals as goal
 
 pub returns-then-is_ignored : goal.returns-then-is_ignored
@@ -11,7 +11,7 @@ returns-then-is_ignored c =
 pub returns-then-find_or_add_connect_token_entry : goal.returns-then-find_or_add_connect_token_entry
 returns-then-find_or_add_connect_token_entry c =
     let a = c.args in
-    let-in a.server a.datagram a.addr a.expire_timestamp a.token a.slots.now a.pending.now a.held.now a.out.now
+    let_in a.server a.datagram a.addr a.expire_timestamp a.token a.slots.now a.pending.now a.held.now a.out.now
     a.mac_low a.mac_high a.entries.now _ c.is_ignored.ensures c.if-is_ignored.false _ c.use_of-new_entry.ensures
     _ _ c.find_or_add_connect_token_entry.ensures c.if-find_or_add_connect_token_entry.true _ _ _ _ c.welcome.ensures
 

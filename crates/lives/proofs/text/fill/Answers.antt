@@ -1,6 +1,6 @@
 -- The bytes so far stand at the start.
 use Rattle.std.proofs.Common.{◌-◌, sym, ◌∙◌, zero-add, arith}
-use Rattle.serialize.proofs.Loops.{fill_start, fill-turn, fill_end}
+use Rattle.serialize.proofs.Loops.{fill_start, fill_turn, fill_end}
 use Rattle.lives.specs.Text.{unhex}
 use Rattle.lives.proofs.Hex.{length_unhex, unhex_at}
 use Rattle.lives.proofs.text.fill.Goals as goal
@@ -15,7 +15,7 @@ loop-k-preserved c =
     let a = c.args in
     let l = c.loop-k in
     rw (zero-add l.k) at
-    (fill-turn
+    (fill_turn
     a.out.now
     0
     (unhex a.n a.word.now)

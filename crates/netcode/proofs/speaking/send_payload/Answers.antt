@@ -2,7 +2,7 @@
 use mathlib.Core.Path.{refl}
 use lib.ListN.{length, get_or}
 use Rattle.netcode.specs.Told.{desk}
-use Rattle.netcode.proofs.Speaks.{need_read, payload-told}
+use Rattle.netcode.proofs.Speaks.{need_read, payload_told}
 use Rattle.netcode.proofs.speaking.send_payload.Goals as goal
 
 pub write_packet_with-wanted-requires : goal.write_packet_with-wanted-requires
@@ -13,6 +13,6 @@ write_packet_with-wanted-requires c =
 pub returns : goal.returns
 returns c =
     let a = c.args in
-    payload-told a.words.now a.slots.now a.payload.now a.out.now a.i a.answer.now a.ask.now _ c.sequence-sequence.ensures _ c.send_key-key.ensures
+    payload_told a.words.now a.slots.now a.payload.now a.out.now a.i a.answer.now a.ask.now _ c.sequence-sequence.ensures _ c.send_key-key.ensures
     c.write_packet_with-wanted.result c.write_packet_with-wanted.new.out c.write_packet_with-wanted.ensures
     (desk c.lay_asking.new.words c.lay_asking.new.answer c.lay_asking.new.ask) c.lay_asking.ensures

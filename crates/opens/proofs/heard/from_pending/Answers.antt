@@ -1,5 +1,5 @@
 -- The window moved, and the body decides: short, or whole, and then the received time is set and the packet says what follows.
-use Rattle.opens.proofs.Ways.{body_fits, pending-whole, pending-short}
+use Rattle.opens.proofs.Ways.{body_fits, pending_whole, pending_short}
 use Rattle.opens.proofs.heard.from_pending.Goals as goal
 
 pub pending_says-requires : goal.pending_says-requires
@@ -8,11 +8,11 @@ pending_says-requires c = body_fits c.args.kind c.args.datagram.now c.args.start
 pub returns-in-Whole : goal.returns-in-Whole
 returns-in-Whole c =
     let a = c.args in
-    pending-whole a.server a.pending.now a.j a.kind a.sequence a.start a.datagram.now _ _ c.read.ensures
+    pending_whole a.server a.pending.now a.j a.kind a.sequence a.start a.datagram.now _ _ c.read.ensures
     c.accept.ensures a.out _ c.in-Whole.is _ c.set_received_time.ensures _ c.pending_says.ensures
 
 pub returns-in-Short : goal.returns-in-Short
 returns-in-Short c =
     let a = c.args in
-    pending-short a.server a.pending.now a.j a.kind a.sequence a.start a.datagram.now _ _ c.read.ensures
+    pending_short a.server a.pending.now a.j a.kind a.sequence a.start a.datagram.now _ _ c.read.ensures
     c.accept.ensures a.out c.in-Short.is _ c.closed.ensures

@@ -1,6 +1,6 @@
 -- The window moved, and the body decides: short, or whole, and then the packet acts on the slot with its received time set.
 use mathlib.Core.Path.{◌∙◌}
-use Rattle.opens.proofs.Ways.{slot_whole, slot-short}
+use Rattle.opens.proofs.Ways.{slot_whole, slot_short}
 use Rattle.opens.proofs.heard.from_slot.Goals as goal
 
 pub shape_of-slots-in-Whole : goal.shape_of-slots-in-Whole
@@ -15,5 +15,5 @@ returns-in-Whole c =
 pub returns-in-Short : goal.returns-in-Short
 returns-in-Short c =
     let a = c.args in
-    slot-short a.server a.slots.now a.i a.kind a.sequence a.start a.datagram.now _ _ c.read.ensures c.accept.ensures
+    slot_short a.server a.slots.now a.i a.kind a.sequence a.start a.datagram.now _ _ c.read.ensures c.accept.ensures
     c.in-Short.is _ c.closed.ensures

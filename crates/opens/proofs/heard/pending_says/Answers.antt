@@ -1,5 +1,5 @@
 -- Each packet is a case of the definition; only a response asks for something, and its body has the 308 bytes that the ask needs.
-use Rattle.opens.proofs.Ways.{pending-request, pending-denied, pending-challenge, pending_response, pending-alive, pending-payload, pending-ended, response_long}
+use Rattle.opens.proofs.Ways.{pending_request, pending_denied, pending_challenge, pending_response, pending_alive, pending_payload, pending_ended, response_long}
 use Rattle.opens.proofs.heard.pending_says.Goals as goal
 
 pub ask_challenge-requires : goal.ask_challenge-requires
@@ -8,17 +8,17 @@ ask_challenge-requires c = response_long c.args.packet _ c.args.start c.args.dat
 pub returns-in-ConnectionRequest : goal.returns-in-ConnectionRequest
 returns-in-ConnectionRequest c =
     let a = c.args in
-    pending-request a.server a.j a.start a.datagram a.out a.packet _ c.closed.ensures _ _ c.in-ConnectionRequest.is
+    pending_request a.server a.j a.start a.datagram a.out a.packet _ c.closed.ensures _ _ c.in-ConnectionRequest.is
 
 pub returns-in-ConnectionDenied : goal.returns-in-ConnectionDenied
 returns-in-ConnectionDenied c =
     let a = c.args in
-    pending-denied a.server a.j a.start a.datagram a.out a.packet _ c.closed-in-ConnectionDenied.ensures c.in-ConnectionDenied.is
+    pending_denied a.server a.j a.start a.datagram a.out a.packet _ c.closed-in-ConnectionDenied.ensures c.in-ConnectionDenied.is
 
 pub returns-in-Challenge : goal.returns-in-Challenge
 returns-in-Challenge c =
     let a = c.args in
-    pending-challenge a.server a.j a.start a.datagram a.out a.packet _ c.closed-in-Challenge.ensures _ c.in-Challenge.is
+    pending_challenge a.server a.j a.start a.datagram a.out a.packet _ c.closed-in-Challenge.ensures _ c.in-Challenge.is
 
 pub returns-in-Response : goal.returns-in-Response
 returns-in-Response c =
@@ -28,14 +28,14 @@ returns-in-Response c =
 pub returns-in-KeepAlive : goal.returns-in-KeepAlive
 returns-in-KeepAlive c =
     let a = c.args in
-    pending-alive a.server a.j a.start a.datagram a.out a.packet _ c.closed-in-KeepAlive.ensures _ _ c.in-KeepAlive.is
+    pending_alive a.server a.j a.start a.datagram a.out a.packet _ c.closed-in-KeepAlive.ensures _ _ c.in-KeepAlive.is
 
 pub returns-in-Payload : goal.returns-in-Payload
 returns-in-Payload c =
     let a = c.args in
-    pending-payload a.server a.j a.start a.datagram a.out a.packet _ c.closed-in-Payload.ensures c.in-Payload.is
+    pending_payload a.server a.j a.start a.datagram a.out a.packet _ c.closed-in-Payload.ensures c.in-Payload.is
 
 pub returns-in-Disconnect : goal.returns-in-Disconnect
 returns-in-Disconnect c =
     let a = c.args in
-    pending-ended a.server a.j a.start a.datagram a.out a.packet _ c.closed-in-Disconnect.ensures c.in-Disconnect.is
+    pending_ended a.server a.j a.start a.datagram a.out a.packet _ c.closed-in-Disconnect.ensures c.in-Disconnect.is

@@ -1,31 +1,31 @@
 -- Each packet is a case of the definition, by what its calls wrote and gave.
-use Rattle.opens.proofs.Ways.{slot-request, slot-denied, slot-challenge, slot-response, slot-alive, slot_payload, slot_ended}
+use Rattle.opens.proofs.Ways.{slot_request, slot_denied, slot_challenge, slot_response, slot_alive, slot_payload, slot_ended}
 use Rattle.opens.proofs.heard.slot_says.Goals as goal
 
 pub returns-in-ConnectionRequest : goal.returns-in-ConnectionRequest
 returns-in-ConnectionRequest c =
     let a = c.args in
-    slot-request a.server a.slots.now a.n a.i a.start a.end a.packet _ c.closed.ensures _ _ c.in-ConnectionRequest.is
+    slot_request a.server a.slots.now a.n a.i a.start a.end a.packet _ c.closed.ensures _ _ c.in-ConnectionRequest.is
 
 pub returns-in-ConnectionDenied : goal.returns-in-ConnectionDenied
 returns-in-ConnectionDenied c =
     let a = c.args in
-    slot-denied a.server a.slots.now a.n a.i a.start a.end a.packet _ c.closed-in-ConnectionDenied.ensures c.in-ConnectionDenied.is
+    slot_denied a.server a.slots.now a.n a.i a.start a.end a.packet _ c.closed-in-ConnectionDenied.ensures c.in-ConnectionDenied.is
 
 pub returns-in-Challenge : goal.returns-in-Challenge
 returns-in-Challenge c =
     let a = c.args in
-    slot-challenge a.server a.slots.now a.n a.i a.start a.end a.packet _ c.closed-in-Challenge.ensures _ c.in-Challenge.is
+    slot_challenge a.server a.slots.now a.n a.i a.start a.end a.packet _ c.closed-in-Challenge.ensures _ c.in-Challenge.is
 
 pub returns-in-Response : goal.returns-in-Response
 returns-in-Response c =
     let a = c.args in
-    slot-response a.server a.slots.now a.n a.i a.start a.end a.packet _ c.closed-in-Response.ensures _ c.in-Response.is
+    slot_response a.server a.slots.now a.n a.i a.start a.end a.packet _ c.closed-in-Response.ensures _ c.in-Response.is
 
 pub returns-in-KeepAlive : goal.returns-in-KeepAlive
 returns-in-KeepAlive c =
     let a = c.args in
-    slot-alive a.server a.slots.now a.n a.i a.start a.end a.packet _ c.closed-in-KeepAlive.ensures _ _ c.in-KeepAlive.is _
+    slot_alive a.server a.slots.now a.n a.i a.start a.end a.packet _ c.closed-in-KeepAlive.ensures _ _ c.in-KeepAlive.is _
     c.confirm.ensures
 
 pub returns-in-Payload : goal.returns-in-Payload

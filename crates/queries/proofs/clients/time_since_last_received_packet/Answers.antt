@@ -3,14 +3,14 @@ use mathlib.Core.Path.{ap, ◌∙◌}
 use Rattle.queries.specs.declared.Reply.TheVariants.{Refused, Since}
 use Rattle.times.specs.Times.{since}
 use Rattle.queries.specs.Queries.{time_since}
-use Rattle.queries.proofs.Ways.{is_shaped, is-refused, is-place, is_found, is-missed}
+use Rattle.queries.proofs.Ways.{is_shaped, is_refused, is_place, is_found, is_missed}
 use Rattle.queries.proofs.clients.time_since_last_received_packet.Goals as goal
 
 pub returns-then-refusal-ne0 : goal.returns-then-refusal-ne0
 unfolding time_since
 returns-then-refusal-ne0 c =
     let a = c.args in
-    is-refused a.server a.slots.now _ c.slots_refusal-refusal.ensures Refused _ c.if-refusal-ne0.true
+    is_refused a.server a.slots.now _ c.slots_refusal-refusal.ensures Refused _ c.if-refusal-ne0.true
 
 pub find_by_id-requires : goal.find_by_id-requires
 find_by_id-requires c =
@@ -20,7 +20,7 @@ find_by_id-requires c =
 pub received_time-requires : goal.received_time-requires
 received_time-requires c =
     let a = c.args in
-    is-place a.server a.slots.now _ c.slots_refusal-refusal.ensures c.if-refusal-ne0.false a.client_id _
+    is_place a.server a.slots.now _ c.slots_refusal-refusal.ensures c.if-refusal-ne0.false a.client_id _
     c.find_by_id.ensures _ c.in-At.is
 
 pub returns-in-At : goal.returns-in-At
@@ -35,5 +35,5 @@ pub returns-in-Nothing : goal.returns-in-Nothing
 unfolding time_since
 returns-in-Nothing c =
     let a = c.args in
-    is-missed a.server a.slots.now _ c.slots_refusal-refusal.ensures c.if-refusal-ne0.false a.client_id _
+    is_missed a.server a.slots.now _ c.slots_refusal-refusal.ensures c.if-refusal-ne0.false a.client_id _
     c.find_by_id.ensures Refused _ _ c.in-Nothing.is

@@ -1,6 +1,6 @@
 -- The slots' test, then the list's, and then the places.
 use native.Mathlib.Omega.{arith}
-use Rattle.queries.proofs.Ways.{is_shaped, list_refused, list-short, list-filled}
+use Rattle.queries.proofs.Ways.{is_shaped, list_refused, list_short, list_filled}
 use Rattle.queries.proofs.lists.list_used.Goals as goal
 
 pub returns-then-refusal-ne0 : goal.returns-then-refusal-ne0
@@ -16,7 +16,7 @@ count_used-count-requires c =
 pub returns-then-list-count : goal.returns-then-list-count
 returns-then-list-count c =
     let a = c.args in
-    list-short a.server a.slots.now a.list.now a.ids _ c.slots_refusal-refusal.ensures c.if-refusal-ne0.false _
+    list_short a.server a.slots.now a.list.now a.ids _ c.slots_refusal-refusal.ensures c.if-refusal-ne0.false _
     c.count_used-count.ensures c.if-list-count.true
 
 pub fill_used-requires : goal.fill_used-requires
@@ -29,5 +29,5 @@ fill_used-requires c =
 pub returns : goal.returns
 returns c =
     let a = c.args in
-    list-filled a.server a.slots.now a.list.now a.ids _ c.slots_refusal-refusal.ensures c.if-refusal-ne0.false _
+    list_filled a.server a.slots.now a.list.now a.ids _ c.slots_refusal-refusal.ensures c.if-refusal-ne0.false _
     c.count_used-count.ensures c.if-list-count.false _ c.fill_used.ensures

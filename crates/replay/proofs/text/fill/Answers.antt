@@ -1,6 +1,6 @@
 -- The bytes so far stand from index at on.
 use Rattle.std.proofs.Common.{◌-◌, sym, ◌∙◌, arith}
-use Rattle.serialize.proofs.Loops.{fill_start, fill-turn, fill_end}
+use Rattle.serialize.proofs.Loops.{fill_start, fill_turn, fill_end}
 use Rattle.replay.specs.Text.{unhex}
 use Rattle.replay.proofs.Hex.{length_unhex, unhex_at}
 use Rattle.replay.proofs.text.fill.Goals as goal
@@ -15,7 +15,7 @@ loop-k-preserved c =
     let a = c.args in
     let p = c.requires in
     let l = c.loop-k in
-    fill-turn
+    fill_turn
     a.out.now
     a.at
     (unhex a.n a.word.now)

@@ -2,10 +2,10 @@
 use mathlib.Core.Path.{◌∙◌}
 use native.Mathlib.Omega.{arith}
 use Rattle.replay_protection.specs.Ours.{width}
-use Rattle.replay_protection.proofs.Stored.{refusal-here}
+use Rattle.replay_protection.proofs.Stored.{refusal_here}
 use Rattle.replay_protection.proofs.table.refusal_at.Goals as goal
 
 pub returns : goal.returns
 returns c =
     c.refusal_by.ensures
-    ∙ refusal-here width c.args.t.now c.args.at c.requires (omega arith) c.args.sequence c.index.ensures
+    ∙ refusal_here width c.args.t.now c.args.at c.requires (omega arith) c.args.sequence c.index.ensures

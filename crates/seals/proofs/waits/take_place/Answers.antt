@@ -1,7 +1,7 @@
 -- By what the search for a free place gave.
 use mathlib.Core.Path.{sym, ◌∙◌}
 use Rattle.places.proofs.Searches.{free_found}
-use Rattle.seals.proofs.Ways.{place-taken, no_place}
+use Rattle.seals.proofs.Ways.{place_taken, no_place}
 use Rattle.seals.proofs.waits.take_place.Goals as goal
 
 pub fill-requires : goal.fill-requires
@@ -10,7 +10,7 @@ fill-requires c = (c.requires, ((free_found c.args.pending.now c.args.m _).0 (sy
 pub returns-in-At : goal.returns-in-At
 returns-in-At c =
     let a = c.args in
-    place-taken a.pending.now a.m a.held.now a.addr a.time _ c.find_free.ensures
+    place_taken a.pending.now a.m a.held.now a.addr a.time _ c.find_free.ensures
     _ c.in-At.is _ c.newcomer-connection.ensures _ c.fill.ensures
 
 pub returns-in-Nothing : goal.returns-in-Nothing

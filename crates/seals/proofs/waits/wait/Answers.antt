@@ -2,7 +2,7 @@
 use mathlib.Core.Path.{sym, ◌∙◌}
 use Prim.Native.Nat.{◌<◌}
 use Rattle.places.proofs.Searches.{address_found}
-use Rattle.seals.proofs.Ways.{times-move, newcomer-waits}
+use Rattle.seals.proofs.Ways.{times_move, newcomer_waits}
 use borrow.Author.Rules.{rules}
 use Rattle.seals.proofs.waits.wait.Goals as goal
 
@@ -21,11 +21,11 @@ set_sent_time-requires c =
 pub returns-in-At : goal.returns-in-At
 returns-in-At c =
     let a = c.args in
-    times-move a.pending.now a.m a.held.now a.addr a.time _ c.find_by_address.ensures
+    times_move a.pending.now a.m a.held.now a.addr a.time _ c.find_by_address.ensures
     _ c.in-At.is _ c.set_received_time.ensures _ c.set_sent_time.ensures
 
 pub returns-in-Nothing : goal.returns-in-Nothing
 returns-in-Nothing c =
     let a = c.args in
-    newcomer-waits a.pending.now a.m a.held.now a.addr a.time _ c.find_by_address.ensures
+    newcomer_waits a.pending.now a.m a.held.now a.addr a.time _ c.find_by_address.ensures
     c.in-Nothing.is _ c.take_place.ensures

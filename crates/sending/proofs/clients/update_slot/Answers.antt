@@ -1,5 +1,5 @@
 -- By the two tests: ended, kept alive, or left alone.
-use Rattle.sending.proofs.Ways.{slot_ends, slot_sends, slot-rests}
+use Rattle.sending.proofs.Ways.{slot_ends, slot_sends, slot_rests}
 use Rattle.sending.proofs.clients.update_slot.Goals as goal
 
 pub returns-then-is_overdue : goal.returns-then-is_overdue
@@ -15,4 +15,4 @@ returns-then-is_silent c =
 pub returns : goal.returns
 returns c =
     let a = c.args in
-    slot-rests a.server a.client_id a.slots.now a.i a.out.now _ c.is_overdue.ensures c.if-is_overdue.false _ c.is_silent.ensures c.if-is_silent.false _ c.answered.ensures
+    slot_rests a.server a.client_id a.slots.now a.i a.out.now _ c.is_overdue.ensures c.if-is_overdue.false _ c.is_silent.ensures c.if-is_silent.false _ c.answered.ensures

@@ -1,7 +1,7 @@
 -- After i turns the first i marks are new.
 use Prim.Native.Nat.{◌-◌}
 use native.Mathlib.Omega.{arith}
-use Rattle.upkeep.proofs.Marks.{drop_start, drop-turn, drop-end, half_length, half-shaped}
+use Rattle.upkeep.proofs.Marks.{drop_start, drop_turn, drop_end, half_length, half_shaped}
 use Rattle.upkeep.proofs.clock.drop_expired.Goals as goal
 
 pub loop-i-init : goal.loop-i-init
@@ -11,14 +11,14 @@ pub drop_if_expired-requires : goal.drop_if_expired-requires
 drop_if_expired-requires c =
     let l = c.loop-i in
     let a = c.args in
-    (half-shaped a.pending.now a.m a.secs c.requires l.pending l.i l.invariant.0 l.invariant.1, c.loop-i-test.true)
+    (half_shaped a.pending.now a.m a.secs c.requires l.pending l.i l.invariant.0 l.invariant.1, c.loop-i-test.true)
 
 pub loop-i-preserved : goal.loop-i-preserved
 loop-i-preserved c =
     let l = c.loop-i in
     let a = c.args in (
       omega arith,
-      drop-turn a.pending.now a.m a.secs c.requires l.pending l.i l.invariant.0 l.invariant.1 c.loop-i-test.true
+      drop_turn a.pending.now a.m a.secs c.requires l.pending l.i l.invariant.0 l.invariant.1 c.loop-i-test.true
           _ c.drop_if_expired.ensures,
     )
 
@@ -32,4 +32,4 @@ pub returns : goal.returns
 returns c =
     let l = c.loop-i in
     let a = c.args in
-    drop-end a.pending.now a.m a.secs c.requires l.pending l.i l.invariant.0 l.invariant.1 c.loop-i-test.false
+    drop_end a.pending.now a.m a.secs c.requires l.pending l.i l.invariant.0 l.invariant.1 c.loop-i-test.false

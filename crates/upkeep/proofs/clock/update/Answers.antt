@@ -1,7 +1,7 @@
 -- Each way out is a case of the definition, by the tests and the sum that led there.
 use mathlib.Core.Path.{sym, ◌∙◌}
 use Rattle.server.proofs.Inversions.{call_free, pending_shaped}
-use Rattle.upkeep.proofs.Ways.{update_stops, update-late, update-done}
+use Rattle.upkeep.proofs.Ways.{update_stops, update_late, update_done}
 use Rattle.upkeep.proofs.clock.update.Goals as goal
 
 pub returns-then-refusal-ne0 : goal.returns-then-refusal-ne0
@@ -18,11 +18,11 @@ drop_expired-requires c =
 pub returns-in-Clock : goal.returns-in-Clock
 returns-in-Clock c =
     let a = c.args in
-    update-done a.server a.pending.now a.duration _ c.pending_refusal.ensures _ c.call_refusal-refusal.ensures c.if-refusal-ne0.false
+    update_done a.server a.pending.now a.duration _ c.pending_refusal.ensures _ c.call_refusal-refusal.ensures c.if-refusal-ne0.false
     _ c.add.ensures _ c.in-Clock.is _ c.drop_expired.ensures _ c.with_clock.ensures
 
 pub returns-in-OutOfRange : goal.returns-in-OutOfRange
 returns-in-OutOfRange c =
     let a = c.args in
-    update-late a.server a.pending.now a.duration _ c.pending_refusal.ensures _ c.call_refusal-refusal.ensures c.if-refusal-ne0.false
+    update_late a.server a.pending.now a.duration _ c.pending_refusal.ensures _ c.call_refusal-refusal.ensures c.if-refusal-ne0.false
     _ c.add.ensures c.in-OutOfRange.is
