@@ -102,15 +102,20 @@ def renaming():
     return new, of_fields
 
 
-def turn(text, new, of_fields, path):
+def turn(text, new, of_fields, path, whole=""):
     """The text with each name respelled that stands as a word of its own; after a dot only a field of an own record."""
     answers = re.search(r"/(Proof|Answers|Invariants)\.antt$", path) is not None
+    # The modules that the file calls by a name of its own.
+    own = r"(?m)^(?:ghost )?use Rattle\.(?!std\b)\S+\.(?:specs|proofs)\.\S+ as (\w+);?$"
+    alias = set(re.findall(own, whole)) - {"tie", "goal"}
 
     def one(m):
         w = m.group(0)
         before = text[m.start() - 1] if m.start() else " "
         if before == "." and not text[: m.start()].endswith(".."):
             if re.search(r"Rattle[.\w]*\.[A-Z]\w*\.$", text[max(0, m.start() - 80) : m.start()]):
+                return new.get(w, w)
+            if (re.search(r"(?<![.\w'-])(\w+)\.$", text[: m.start()]) or [""])[0][:-1] in alias:
                 return new.get(w, w)
             if w in of_fields and not (answers and "-" in w):
                 return of_fields[w]
@@ -125,14 +130,15 @@ def turn(text, new, of_fields, path):
 def code(path, new, of_fields):
     mark = "//" if path.endswith(".rt") else "--"
     out = []
-    for line in open(path, encoding="utf-8").read().split("\n"):
+    whole = open(path, encoding="utf-8").read()
+    for line in whole.split("\n"):
         head, sep, comment = line, "", ""
         i = line.find(mark)
         if i >= 0 and (i == 0 or line[i - 1] == " "):
             head, sep, comment = line[:i], mark, line[i + 2 :]
         pieces = re.split(r'("(?:[^"\\]|\\.)*")', head) if path.endswith(".rt") else [head]
         for k in range(0, len(pieces), 2):
-            pieces[k] = turn(pieces[k], new, of_fields, path)
+            pieces[k] = turn(pieces[k], new, of_fields, path, whole)
         comment = re.sub(r"`[^`]*`", lambda m: turn(m.group(0), new, of_fields, path), comment)
         out.append("".join(pieces) + sep + comment)
     return "\n".join(out)

@@ -88,7 +88,7 @@ module _ (t : State) (good : Good t) (idle : t.server.ask.stage ≡ Idle)
   slot_found addr i e =
       let n = t.server.set.slots in
       let m = t.server.set.pending in
-      (address_found t.slots n slots addr i).0 (ways.slot-found (find_address t.slots n addr) (find_address t.pending m addr) i e)
+      (address_found t.slots n slots addr i).0 (ways.slot_found (find_address t.slots n addr) (find_address t.pending m addr) i e)
 
   pend_found : (addr : Address) (j : ℕ) → sender_in t addr ≡ Pending j → LowestOf (Keyed t.pending t.server.set.pending columns.addr (words_of addr)) t.server.set.pending j
   pend_found addr j e =

@@ -251,7 +251,7 @@ module _ (t : State) (good : Good t) (slots : Shaped t.slots t.server.set.slots)
 
   -- ---- by the goal
 
-  goal_settled : (g : Goal) (sequence end : ℕ) → t.server.ask.stage ≡ stage.Seal g sequence end → ((j : ℕ) → views.goalLeaves g j ≡ false) → Settled t
+  goal_settled : (g : Goal) (sequence end : ℕ) → t.server.ask.stage ≡ stage.Seal g sequence end → ((j : ℕ) → views.goal_leaves g j ≡ false) → Settled t
   goal_settled g sequence end e k = record { none = λ j. ap (λ (x : Stage). views.leaves x j) e ∙ k j }
 
   goal_fits : (g : Goal) (sequence end : ℕ) → t.server.ask.stage ≡ stage.Seal g sequence end → GoalFits (inside t) (seen t) g

@@ -38,7 +38,7 @@ module _ (list : List ℕ) where
     unfolding list_unfit
     list_long h = simp (eq-eqb (length list % 3) 0 even, lt-ltb 32 (addresses.count list) (omega arith))
 
-    pub list_told : k ≤ 32 → (r : ℕ) → r ≡ addresses.listRefusal list → not (eqb r 0) ≡ list_unfit list
+    pub list_told : k ≤ 32 → (r : ℕ) → r ≡ addresses.list_refusal list → not (eqb r 0) ≡ list_unfit list
     unfolding list_unfit
     list_told h r e =
         ap (λ (x : ℕ). not (eqb x 0)) e ∙ simp (eq-eqb (length list % 3) 0 even, le-ltb 32 (addresses.count list) (omega arith))
@@ -100,7 +100,7 @@ module _ (set : SetUp) (list public : List ℕ) where
   unfolding foreign
   foreign_never e = simp e
 
-  module _ (e : set.secure ≡ true) (o : Bool) (tested : o ≡ addresses.anyOurs list public) where
+  module _ (e : set.secure ≡ true) (o : Bool) (tested : o ≡ addresses.any_ours list public) where
     pub foreign_not : o ≡ true → false ≡ foreign set list public
     unfolding foreign
     foreign_not h = simp (e, told tested h)
@@ -111,42 +111,42 @@ module _ (set : SetUp) (list public : List ℕ) where
 
 -- ---- searches
 
-pub found_at : (f : Found) (i : ℕ) → f ≡ At i → true ≡ addresses.isFound f
-unfolding addresses.isFound
-found_at f i e = sym (ap addresses.isFound e)
+pub found_at : (f : Found) (i : ℕ) → f ≡ At i → true ≡ addresses.is_found f
+unfolding addresses.is_found
+found_at f i e = sym (ap addresses.is_found e)
 
-pub found_not : (f : Found) → f ≡ Nothing → false ≡ addresses.isFound f
-unfolding addresses.isFound
-found_not f e = sym (ap addresses.isFound e)
+pub found_not : (f : Found) → f ≡ Nothing → false ≡ addresses.is_found f
+unfolding addresses.is_found
+found_not f e = sym (ap addresses.is_found e)
 
 -- f and g are what the searches gave, b and d whether they found
 module _ (s : NetcodeServer) (slots : List ℕ) (addr : Address) (id : ℕ) (f : Found) (searched : f ≡ find_address slots s.set.slots addr)
-    (b : Bool) (tested : b ≡ addresses.isFound f) where
-  by_address : b ≡ addresses.isFound (find_address slots s.set.slots addr)
-  by_address = tested ∙ ap addresses.isFound searched
+    (b : Bool) (tested : b ≡ addresses.is_found f) where
+  by_address : b ≡ addresses.is_found (find_address slots s.set.slots addr)
+  by_address = tested ∙ ap addresses.is_found searched
 
   pub connected_by_address : b ≡ true → true ≡ is_connected s slots addr id
   unfolding is_connected
   connected_by_address h = simp (told by_address h)
 
-  pub connected_by_id : b ≡ false → (g : Found) → g ≡ find_id slots s.set.slots id → (d : Bool) → d ≡ addresses.isFound g
+  pub connected_by_id : b ≡ false → (g : Found) → g ≡ find_id slots s.set.slots id → (d : Bool) → d ≡ addresses.is_found g
       → d ≡ is_connected s slots addr id
   unfolding is_connected
-  connected_by_id h g e d k = k ∙ ap addresses.isFound e ∙ simp (told by_address h)
+  connected_by_id h g e d k = k ∙ ap addresses.is_found e ∙ simp (told by_address h)
 
 module _ (s : NetcodeServer) (pending : List ℕ) (addr : Address) (f : Found) (searched : f ≡ find_address pending s.set.pending addr)
-    (b : Bool) (tested : b ≡ addresses.isFound f) where
-  waiting : b ≡ addresses.isFound (find_address pending s.set.pending addr)
-  waiting = tested ∙ ap addresses.isFound searched
+    (b : Bool) (tested : b ≡ addresses.is_found f) where
+  waiting : b ≡ addresses.is_found (find_address pending s.set.pending addr)
+  waiting = tested ∙ ap addresses.is_found searched
 
   pub place_pending : b ≡ true → false ≡ no_place s pending addr
   unfolding no_place
   place_pending h = simp (told waiting h)
 
-  pub place_free : b ≡ false → (g : Found) → g ≡ find_free pending s.set.pending → (d : Bool) → d ≡ addresses.isFound g
+  pub place_free : b ≡ false → (g : Found) → g ≡ find_free pending s.set.pending → (d : Bool) → d ≡ addresses.is_found g
       → not d ≡ no_place s pending addr
   unfolding no_place
-  place_free h g e d k = ap not (k ∙ ap addresses.isFound e) ∙ simp (told waiting h)
+  place_free h g e d k = ap not (k ∙ ap addresses.is_found e) ∙ simp (told waiting h)
 
 -- the first of two, or the second
 pub either_first : (a b x : Bool) → x ≡ a → x ≡ true → true ≡ a || b

@@ -70,12 +70,12 @@ module _ (s : NetcodeServer) (datagram : ℕ) (addr : Address) (expiry : ℕ) (p
     ignored h r e = ap (λ (x : Turn). admitted (met x pending held out) entries) e ∙ simp (told tested h)
 
     module _ (heeded : b ≡ false) (e : ConnectTokenEntry) (used : e ≡ use_of s.current_time addr low high)
-        (x : Bool) (entries' : List ℕ) (added : entry.done x entries' ≡ entry.addEntry entries s.set.entries e) where
+        (x : Bool) (entries' : List ℕ) (added : entry.done x entries' ≡ entry.add_entry entries s.set.entries e) where
       goes_on : by_entry s datagram addr expiry p slots pending held out (entry.done x entries')
           ≡ considered s datagram addr expiry low high p slots pending entries held out
       unfolding considered pick
       goes_on =
-          ap (by_entry s datagram addr expiry p slots pending held out) (added ∙ ap (entry.addEntry entries s.set.entries) used)
+          ap (by_entry s datagram addr expiry p slots pending held out) (added ∙ ap (entry.add_entry entries s.set.entries) used)
           ∙ simp (told tested heeded)
 
       pub let_in : x ≡ true → (r : Turn) (pending' held' out' : List ℕ)

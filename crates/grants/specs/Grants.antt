@@ -27,7 +27,7 @@ granted o entries held out = record { outcome = o; entries = entries; held = hel
 
 -- three words an address, 32 addresses at most, none malformed
 unfoldable pub list_unfit : List ℕ → Bool
-list_unfit list = not (eqb (length list % 3) 0) || (ltb 32 (addresses.count list) || not (eqb (addresses.listRefusal list) 0))
+list_unfit list = not (eqb (length list % 3) 0) || (ltb 32 (addresses.count list) || not (eqb (addresses.list_refusal list) 0))
 
 unfoldable pub fields_refusal : Bool → List ℕ → ℕ
 fields_refusal given list = pick (given && list_unfit list) 18 0
@@ -41,7 +41,7 @@ grant_refusal t entries public datagram out given list =
 -- ---- 13
 
 unfoldable pub foreign : SetUp → List ℕ → List ℕ → Bool
-foreign set list public = set.secure && not (addresses.anyOurs list public)
+foreign set list public = set.secure && not (addresses.any_ours list public)
 
 -- ---- the whole
 

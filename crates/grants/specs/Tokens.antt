@@ -127,4 +127,4 @@ by_entry s datagram addr expiry p slots pending held out e =
 unfoldable pub considered : NetcodeServer → ℕ → Address → ℕ → ℕ → ℕ → PrivateConnectToken → List ℕ → List ℕ → List ℕ → List ℕ → List ℕ → Admitted
 considered s datagram addr expiry low high p slots pending entries held out =
     pick (is_connected s slots addr p.client_id || no_place s pending addr) (admitted (met (closed s answer.Nothing) pending held out) entries)
-    (by_entry s datagram addr expiry p slots pending held out (entry.addEntry entries s.set.entries (use_of s.current_time addr low high)))
+    (by_entry s datagram addr expiry p slots pending held out (entry.add_entry entries s.set.entries (use_of s.current_time addr low high)))

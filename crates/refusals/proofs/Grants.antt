@@ -113,7 +113,7 @@ module _ (t : State) (datagram : ℕ) (addr : Address) (expiry : ℕ) (p : Priva
 module _ (t : State) (given : Bool) (p : PrivateConnectToken) (list entries public held out : List ℕ) (datagram : ℕ) where
   -- the entries with the token's use
   abbrev used : Address → ℕ → ℕ → entry.Outcome
-  used addr low high = entry.addEntry entries t.server.set.entries (use_of t.server.current_time addr low high)
+  used addr low high = entry.add_entry entries t.server.set.entries (use_of t.server.current_time addr low high)
 
   -- refused by a number, which leaves what its line says; held bytes and output as they were, and the entries unless the number is 15
   record Told (n : ℕ) (w : Granted) : Type 0 where
@@ -330,7 +330,7 @@ pub grants_leave : (t : State) (given : Bool) (p : PrivateConnectToken) (list en
     × ((n ≡ 15 → ⊥) → (grants t given p list entries public held out datagram).entries ≡ entries)
     × (n ≡ 15 → (addr : Address) (expiry low high : ℕ) → t.server.ask.stage ≡ stage.Token addr expiry low high
     → (grants t given p list entries public held out datagram).entries
-    ≡ (entry.addEntry entries t.server.set.entries (use_of t.server.current_time addr low high)).entries)
+    ≡ (entry.add_entry entries t.server.set.entries (use_of t.server.current_time addr low high)).entries)
 grants_leave t given p list entries public held out datagram n e =
     let k = line_told t given p list entries public held out datagram n
     (settle t given p list entries public held out datagram n (verdict t given p list entries public held out datagram) e) in

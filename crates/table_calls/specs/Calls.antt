@@ -82,6 +82,6 @@ outcome_told o = told (bit_of o.answer) o.entries
 
 unfoldable pub entry_call : List ℕ → ℕ → ℕ → ℕ → List ℕ → ℕ → List ℕ → Told
 entry_call t secs nanos kind bytes port mac =
-    pick (not (eqb (entry.entriesRefusal t) 0)) (told 23 t)
+    pick (not (eqb (entry.entries_refusal t) 0)) (told 23 t)
     (pick (not (eqb (refusal (of_bytes kind bytes port)) 0)) (told 19 t)
     (outcome_told (add_entry t (entry.count t) (entry_of secs nanos (of_bytes kind bytes port) mac))))

@@ -159,17 +159,17 @@ module _ (c : ServerConfig) (slots pending entries public : List ℕ) where
   unfolding lengths_refusal
   lengths_why =
       lengths_number (not (eqb (places_refusal slots 1024) 0)) (not (eqb (places_refusal pending 4096) 0))
-      (not (eqb (entry.entriesRefusal entries) 0)) (not (eqb (length public % 3) 0)) (ltb (count slots) c.max_clients)
+      (not (eqb (entry.entries_refusal entries) 0)) (not (eqb (length public % 3) 0)) (ltb (count slots) c.max_clients)
 
-  list_why : (listed.listRefusal public ≡ 0 → ⊥) → listed.listRefusal public ≡ 19
-  unfolding listed.listRefusal
-  list_why = list_number (listed.isFound (listed.findMalformed public))
+  list_why : (listed.list_refusal public ≡ 0 → ⊥) → listed.list_refusal public ≡ 19
+  unfolding listed.list_refusal
+  list_why = list_number (listed.is_found (listed.find_malformed public))
 
   tests_why : (tests ≡ 0 → ⊥) → Why c slots pending entries public tests
   unfolding before pick
   tests_why n =
       let l : ℕ = lengths_refusal c.max_clients slots pending entries public in
-      let f : ℕ = listed.listRefusal public in
+      let f : ℕ = listed.list_refusal public in
       by_test (eqb l 0)
       (λ b.
       let same : tests ≡ f = ap (λ (x : Bool). pick x f l) b in
@@ -187,7 +187,7 @@ module _ (c : ServerConfig) (slots pending entries public : List ℕ) where
       by_end
       (λ m e. subst (Unstarted c slots pending entries public) e (unstarted tests (tests_why m)))
       (λ free q e.
-      let (l, f) = neither (lengths_refusal c.max_clients slots pending entries public) (listed.listRefusal public) free in
+      let (l, f) = neither (lengths_refusal c.max_clients slots pending entries public) (listed.list_refusal public) free in
       subst (Unstarted c slots pending entries public) e (unstarted 20 (Range l f q)))
       (λ free t q e. absurd (n (ap (λ (o : Outcome). o.result.refusal) (sym e))))
     where
@@ -206,8 +206,8 @@ blank_refused t = refl
 
 pub blank_update : (t : List ℕ) (duration : Time) → clocks.updated blank t duration ≡ clocks.done (refused blank 23) t
 blank_update t duration =
-    let e : clocks.updateRefusal blank t ≡ 23 = idle_passes blank.ask (pending_refusal blank.set (length t)) refl ∙ blank_refused t in
-    sym (update_stops blank t duration (pending_refusal blank.set (length t)) refl (clocks.updateRefusal blank t) refl (λ z. omega arith))
+    let e : clocks.update_refusal blank t ≡ 23 = idle_passes blank.ask (pending_refusal blank.set (length t)) refl ∙ blank_refused t in
+    sym (update_stops blank t duration (pending_refusal blank.set (length t)) refl (clocks.update_refusal blank t) refl (λ z. omega arith))
     ∙ ap (λ (x : ℕ). clocks.done (refused blank x) t) e
 
 -- ---- the connect key is the caller's where the server is secure, and zeros where it is not

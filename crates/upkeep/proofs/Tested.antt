@@ -50,7 +50,7 @@ pub record Tested (limit : ℕ) (slots pending entries public : List ℕ) : Type
   pub entered : entry.Shaped entries (entry.count entries)
   pub even : length public ≡ listed.count public * 3
   pub within : limit ≤ count slots
-  pub formed : listed.listRefusal public ≡ 0
+  pub formed : listed.list_refusal public ≡ 0
 
 five : (a b c d e : Bool) → pick {A = ℕ} (not a) 23 (pick (not b) 23 (pick (not c) 23 (pick (not d) 23 (pick e 23 0)))) ≡ 0
     → (a ≡ true) × (b ≡ true) × (c ≡ true) × (d ≡ true) × (e ≡ false)
@@ -66,14 +66,14 @@ module _ (limit : ℕ) (slots pending entries public : List ℕ) (r : ℕ) (gave
   pub tested : Tested limit slots pending entries public
   unfolding lengths_refusal
   tested =
-      let (l, f) = neither (lengths_refusal limit slots pending entries public) (listed.listRefusal public) (sym gave ∙ free) in
-      let (a, b, c, d, e) = five (eqb (places_refusal slots 1024) 0) (eqb (places_refusal pending 4096) 0) (eqb (entry.entriesRefusal entries) 0)
+      let (l, f) = neither (lengths_refusal limit slots pending entries public) (listed.list_refusal public) (sym gave ∙ free) in
+      let (a, b, c, d, e) = five (eqb (places_refusal slots 1024) 0) (eqb (places_refusal pending 4096) 0) (eqb (entry.entries_refusal entries) 0)
       (eqb (length public % 3) 0) (ltb (count slots) limit) l in
       let whole : length public % 3 ≡ 0 = eqb-true (length public % 3) 0 d in
       record {
         slotted = places_taken slots 1024 (eqb-true (places_refusal slots 1024) 0 a);
         waiting = places_taken pending 4096 (eqb-true (places_refusal pending 4096) 0 b);
-        entered = taken_shaped entries (eqb-true (entry.entriesRefusal entries) 0 c);
+        entered = taken_shaped entries (eqb-true (entry.entries_refusal entries) 0 c);
         even = omega arith;
         within = ltb-false (count slots) limit e;
         formed = f;
@@ -97,8 +97,8 @@ module _ (limit : ℕ) (slots pending entries public : List ℕ) where
       let e : 0 ≡ lengths_refusal limit slots pending entries public =
       lengths_pass limit slots pending entries public (places_refusal slots 1024) refl (places_pass slots 1024 k.slotted)
       (places_refusal pending 4096) refl (places_pass pending 4096 k.waiting)
-      (entry.entriesRefusal entries) refl (shaped_taken entries (entry.count entries) k.entered).0 even (count slots) refl k.within in
-      sym (second_decides (lengths_refusal limit slots pending entries public) (listed.listRefusal public) 0 e refl 0 (sym k.formed))
+      (entry.entries_refusal entries) refl (shaped_taken entries (entry.count entries) k.entered).0 even (count slots) refl k.within in
+      sym (second_decides (lengths_refusal limit slots pending entries public) (listed.list_refusal public) 0 e refl 0 (sym k.formed))
 
   pub tests_exactly : (set_up_refusal limit slots pending entries public ≡ 0) ↔ Tested limit slots pending entries public
   tests_exactly = (tested limit slots pending entries public (set_up_refusal limit slots pending entries public) refl, tests_pass)

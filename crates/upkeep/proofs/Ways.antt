@@ -41,17 +41,17 @@ module _ (limit : ℕ) (slots pending entries public : List ℕ) (s : ℕ) (ts :
     unfolding lengths_refusal pick
     pending_refused n = simp (slots_pass, ne_eqb (places_refusal pending 4096) 0 (λ z. n (tp ∙ z)))
 
-    module _ (zp : p ≡ 0) (e : ℕ) (te : e ≡ entry.entriesRefusal entries) where
+    module _ (zp : p ≡ 0) (e : ℕ) (te : e ≡ entry.entries_refusal entries) where
       pending_pass : eqb (places_refusal pending 4096) 0 ≡ true
       pending_pass = eq-eqb (places_refusal pending 4096) 0 (sym tp ∙ zp)
 
       pub entries_refused : (e ≡ 0 → ⊥) → 23 ≡ lengths_refusal limit slots pending entries public
       unfolding lengths_refusal pick
-      entries_refused n = simp (slots_pass, pending_pass, ne_eqb (entry.entriesRefusal entries) 0 (λ z. n (te ∙ z)))
+      entries_refused n = simp (slots_pass, pending_pass, ne_eqb (entry.entries_refusal entries) 0 (λ z. n (te ∙ z)))
 
       module _ (ze : e ≡ 0) where
-        entries_pass : eqb (entry.entriesRefusal entries) 0 ≡ true
-        entries_pass = eq-eqb (entry.entriesRefusal entries) 0 (sym te ∙ ze)
+        entries_pass : eqb (entry.entries_refusal entries) 0 ≡ true
+        entries_pass = eq-eqb (entry.entries_refusal entries) 0 (sym te ∙ ze)
 
         pub list_uneven : (length public % 3 ≡ 0 → ⊥) → 23 ≡ lengths_refusal limit slots pending entries public
         unfolding lengths_refusal pick
@@ -111,10 +111,10 @@ module _ (c : ServerConfig) (slots pending entries public : List ℕ) (r : ℕ)
 module _ (s : NetcodeServer) (pending : List ℕ) (duration : Time) (t : ℕ) (tabled : t ≡ pending_refusal s.set (length pending))
     (r : ℕ) (tested : r ≡ call_refusal s.ask t) where
   abbrev refusal : ℕ
-  refusal = clocks.updateRefusal s pending
+  refusal = clocks.update_refusal s pending
 
   abbrev move : Bool → clocks.Outcome
-  move b = pick b (clocks.byClock s pending (added s.current_time duration)) (clocks.done (refused s refusal) pending)
+  move b = pick b (clocks.by_clock s pending (added s.current_time duration)) (clocks.done (refused s refusal) pending)
 
   same_refusal : r ≡ refusal
   same_refusal = tested ∙ ap (call_refusal s.ask) tabled
@@ -125,20 +125,20 @@ module _ (s : NetcodeServer) (pending : List ℕ) (duration : Time) (t : ℕ) (t
       ap (λ (x : ℕ). clocks.done (refused s x) pending) same_refusal ∙ sym (ap move (ne_eqb refusal 0 (λ z. n (same_refusal ∙ z))))
 
   module _ (free : r ≡ 0) (a : Added) (f : a ≡ added s.current_time duration) where
-    moves_on : clocks.byClock s pending a ≡ clocks.updated s pending duration
+    moves_on : clocks.by_clock s pending a ≡ clocks.updated s pending duration
     unfolding clocks.updated pick
-    moves_on = ap (clocks.byClock s pending) f ∙ sym (ap move (eq-eqb refusal 0 (sym same_refusal ∙ free)))
+    moves_on = ap (clocks.by_clock s pending) f ∙ sym (ap move (eq-eqb refusal 0 (sym same_refusal ∙ free)))
 
     pub update_late : a ≡ OutOfRange → clocks.done (refused s 20) pending ≡ clocks.updated s pending duration
-    unfolding clocks.byClock
-    update_late g = ap (clocks.byClock s pending) (sym g) ∙ moves_on
+    unfolding clocks.by_clock
+    update_late g = ap (clocks.by_clock s pending) (sym g) ∙ moves_on
 
     pub update_done : (clock : Time) → a ≡ Clock clock → (u : List ℕ) → u ≡ clocks.dropped pending s.set.pending clock.secs
         → (n : NetcodeServer) → n ≡ with_clock s clock → clocks.done (step n Nothing) u ≡ clocks.updated s pending duration
-    unfolding clocks.byClock
-    update_done clock g u e n h = laid ∙ ap (clocks.byClock s pending) (sym g) ∙ moves_on
+    unfolding clocks.by_clock
+    update_done clock g u e n h = laid ∙ ap (clocks.by_clock s pending) (sym g) ∙ moves_on
       where
-        laid : clocks.done (step n Nothing) u ≡ clocks.byClock s pending (Clock clock)
+        laid : clocks.done (step n Nothing) u ≡ clocks.by_clock s pending (Clock clock)
         laid = simp (e, h)
 
 -- ---- the limit: r is what the call's test gave

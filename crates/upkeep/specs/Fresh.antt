@@ -46,9 +46,9 @@ pub record Fresh (c : ServerConfig) (s : NetcodeServer) (slots pending entries p
 -- why set-up refuses by a number: the first test that fails says so
 pub data Why (c : ServerConfig) (slots pending entries public : List ℕ) : ℕ → Type 0 where
   Lengths : lengths_refusal c.max_clients slots pending entries public ≡ 23 → Why c slots pending entries public 23
-  Malformed : lengths_refusal c.max_clients slots pending entries public ≡ 0 → listed.listRefusal public ≡ 19
+  Malformed : lengths_refusal c.max_clients slots pending entries public ≡ 0 → listed.list_refusal public ≡ 19
       → Why c slots pending entries public 19
-  Range : lengths_refusal c.max_clients slots pending entries public ≡ 0 → listed.listRefusal public ≡ 0
+  Range : lengths_refusal c.max_clients slots pending entries public ≡ 0 → listed.list_refusal public ≡ 0
       → added zero c.current_time ≡ OutOfRange → Why c slots pending entries public 20
 
 -- what a set-up that refuses leaves: the tables as they were, and a record of no places

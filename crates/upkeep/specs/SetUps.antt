@@ -50,13 +50,13 @@ unfoldable pub lengths_refusal : ℕ → List ℕ → List ℕ → List ℕ → 
 lengths_refusal limit slots pending entries public =
     pick (not (eqb (places_refusal slots 1024) 0)) 23
     (pick (not (eqb (places_refusal pending 4096) 0)) 23
-    (pick (not (eqb (entry.entriesRefusal entries) 0)) 23
+    (pick (not (eqb (entry.entries_refusal entries) 0)) 23
     (pick (not (eqb (length public % 3) 0)) 23
     (pick (ltb (count slots) limit) 23 0))))
 
 -- 23, 19
 abbrev pub set_up_refusal : ℕ → List ℕ → List ℕ → List ℕ → List ℕ → ℕ
-set_up_refusal limit slots pending entries public = before (lengths_refusal limit slots pending entries public) (listed.listRefusal public)
+set_up_refusal limit slots pending entries public = before (lengths_refusal limit slots pending entries public) (listed.list_refusal public)
 
 -- a record of no places, so that every call that is lent a table of connections is 23
 abbrev pub blank : NetcodeServer
