@@ -77,6 +77,7 @@ pub record Sound (w : ℕ) (acc : List ℕ) (win : Window) : Type 0 where
 -- each of some sequences is at most their highest
 le_highest : (acc : List ℕ) (t : ℕ) → Member t acc → t ≤ highest acc
 unfolding highest
+le_highest [] t m = elim m [ ]
 le_highest (x ∷ acc) t (head e) = omega arith
 le_highest (x ∷ acc) t (tail m) = omega (arith, le_highest acc t m)
 

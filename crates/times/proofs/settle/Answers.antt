@@ -4,9 +4,9 @@ use Rattle.times.proofs.Sums.{settle_down, settle_up}
 use Rattle.times.proofs.settle.Goals as goal
 
 pub returns-then-take-give : goal.returns-then-take-give
-returns-then-take-give c = settle_down c.args.up c.args.give c.args.take c.args.rest (omega arith) c.if-take-give.taken c.?pre.0
+returns-then-take-give c = settle_down c.args.up c.args.give c.args.take c.args.rest (omega arith) c.if-take-give.true c.requires.0
 
 pub returns : goal.returns
 returns c =
     let a = c.args in
-    settle_up a.up a.give a.take a.rest (omega arith) c.smaller-fits.result c.if-take-give.left c.smaller-fits.ensures
+    settle_up a.up a.give a.take a.rest (omega arith) c.smaller-fits.result c.if-take-give.false c.smaller-fits.ensures

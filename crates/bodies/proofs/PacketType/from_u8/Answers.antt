@@ -2,6 +2,7 @@
 use mathlib.Core.Path.{sym, ap}
 use Prim.Native.Nat.{◌-◌}
 use borrow.Author.Tests.{ne_eqb}
+use native.Mathlib.Omega.{arith}
 use Rattle.serialize.specs.Choice.{pick}
 use Rattle.bodies.specs.Kinds.{type_of}
 use Rattle.bodies.proofs.PacketType.from_u8.Goals as goal
@@ -38,5 +39,4 @@ pub returns-in_default : goal.returns-in_default
 unfolding type_of pick
 returns-in_default c =
     let v = c.args.value in
-    let r = c.in_default.rest in
-    simp (ne_eqb v 0 r.0.0.0.0.0.0.1, ne_eqb v 1 r.0.0.0.0.0.1, ne_eqb v 2 r.0.0.0.0.1, ne_eqb v 3 r.0.0.0.1, ne_eqb v 4 r.0.0.1, ne_eqb v 5 r.0.1, ne_eqb v 6 r.1)
+    simp (ne_eqb v 0 (omega arith), ne_eqb v 1 (omega arith), ne_eqb v 2 (omega arith), ne_eqb v 3 (omega arith), ne_eqb v 4 (omega arith), ne_eqb v 5 (omega arith), ne_eqb v 6 (omega arith))

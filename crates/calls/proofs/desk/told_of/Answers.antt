@@ -7,7 +7,7 @@ use Rattle.calls.proofs.desk.told_of.Goals as goal
 
 pub returns : goal.returns
 returns c =
-    let a = c.args.t1 in
+    let a = c.args.ask in
     let k : length a.key ≡ 32 = search rules in
     let n : length a.nonce ≡ 12 = search rules in
     let x : length a.additional ≡ 22 = search rules in

@@ -7,10 +7,10 @@ use Rattle.entries.proofs.body.write_body.Goals as goal
 
 pub returns : goal.returns
 returns c =
-    let k : length c.args.t3.mac ≡ 16 = search rules in
+    let k : length c.args.entry.mac ≡ 16 = search rules in
     body_written c.args.entries.now c.write_u64.new.dst c.write_u32.new.dst c.write_address.new.entries c.copy_bytes.new.dst
     c.args.at
-    c.args.t3
+    c.args.entry
     c.requires
     k
     c.write_u64.ensures

@@ -12,7 +12,7 @@ returns c =
     c.pack_words.new.dst
     c.store_window.new.t
     a.at
-    a.t3
+    a.connection
     c.put_keys.ensures
     c.put_numbers.ensures
     c.pack_words.ensures

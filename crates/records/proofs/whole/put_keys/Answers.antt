@@ -24,8 +24,8 @@ returns c =
     c.pack_words-2.new.dst
     a.at
     a.confirmed
-    a.t4
-    a.t5
+    a.send_key
+    a.receive_key
     c.bit_of.ensures
     c.pack_words.ensures
     c.pack_words-2.ensures

@@ -7,9 +7,9 @@ use Rattle.replay_protection.proofs.ReplayProtection.advance_sequence.Goals as g
 pub returns-then-refusal_by-ne0 : goal.returns-then-refusal_by-ne0
 returns-then-refusal_by-ne0 c =
     let a = c.args in
-    ap protection (advance_kept width (window_of a.t1) a.sequence c.index-place.ensures c.refusal_by.ensures c.if-refusal_by-ne0.true)
+    ap protection (advance_kept width (window_of a.self) a.sequence c.index-place.ensures c.refusal_by.ensures c.if-refusal_by-ne0.true)
 
 pub returns : goal.returns
 returns c =
     let a = c.args in
-    ap protection (advance_moved width (window_of a.t1) a.sequence c.index-place.ensures c.refusal_by.ensures c.if-refusal_by-ne0.false c.larger.ensures)
+    ap protection (advance_moved width (window_of a.self) a.sequence c.index-place.ensures c.refusal_by.ensures c.if-refusal_by-ne0.false c.larger.ensures)

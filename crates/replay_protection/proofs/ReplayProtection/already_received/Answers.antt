@@ -8,6 +8,6 @@ use Rattle.replay_protection.proofs.ReplayProtection.already_received.Goals as g
 
 pub returns : goal.returns
 returns c =
-    let win = window_of c.args.t1 in
+    let win = window_of c.args.self in
     let s = c.args.sequence in
     c.is_spent.ensures ∙ ap (λ (i : ℕ). spent width win.most (get_or win.ring i 0) s) c.index.ensures

@@ -8,6 +8,6 @@ use Rattle.replay_protection.proofs.ReplayProtection.refusal.Goals as goal
 
 pub returns : goal.returns
 returns c =
-    let win = window_of c.args.t1 in
+    let win = window_of c.args.self in
     let s = c.args.sequence in
     c.refusal_by.ensures ∙ ap (λ (i : ℕ). refusal_by width win.most (get_or win.ring i 0) s) c.index.ensures

@@ -12,7 +12,7 @@ use Rattle.replay_protection.proofs.table.store_window.Goals as goal
 
 pub copy_words-requires : goal.copy_words-requires
 copy_words-requires c =
-    let k : length c.args.t3.received_packet ≡ width = search rules in
+    let k : length c.args.window.received_packet ≡ width = search rules in
     (simp length-set (omega arith), omega arith)
 
 pub shape_of-t : goal.shape_of-t
@@ -23,7 +23,7 @@ unfolding put_window
 returns c =
     let t = c.args.t.now in
     let at = c.args.at in
-    let win = window_of c.args.t3 in
+    let win = window_of c.args.window in
     let k : length win.ring ≡ width = search rules in
     c.copy_words.ensures
     ∙ ap (splice (set t at win.most) (at + 1)) (part_whole win.ring width k)

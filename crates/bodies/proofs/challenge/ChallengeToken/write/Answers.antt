@@ -8,5 +8,5 @@ use Rattle.bodies.proofs.challenge.ChallengeToken.write.Goals as goal
 pub returns : goal.returns
 returns c =
     let a = c.args in
-    let k : length a.t1.user_data ≡ 256 = search rules in
-    challenge_written a.out.now a.at _ _ _ a.t1.client_id a.t1.user_data c.requires k c.write_u64.ensures c.copy_bytes.ensures c.zero_bytes.ensures
+    let k : length a.self.user_data ≡ 256 = search rules in
+    challenge_written a.out.now a.at _ _ _ a.self.client_id a.self.user_data c.requires k c.write_u64.ensures c.copy_bytes.ensures c.zero_bytes.ensures
