@@ -6,7 +6,7 @@ use native.Mathlib.Omega.{arith}
 use mathlib.Core.List.{List}
 use lib.ListN.{length, get_or}
 use lib.Dec.{eqb, ltb}
-use borrow.Author.Tests.{eq-eqb, ne_eqb, lt-ltb, le-ltb, le-leb, lt-leb, not_true, not-false}
+use borrow.Author.Tests.{eq-eqb, ne_eqb, lt-ltb, le-ltb, le-leb, lt-leb, not-true, not-false}
 use Rattle.serialize.specs.declared.Found.{Found}
 use Rattle.serialize.specs.declared.Found.TheVariants.{At, Nothing}
 use Rattle.serialize.specs.Choice.{pick}
@@ -180,7 +180,7 @@ module _ (s : NetcodeServer) (table : List ℕ) (n : ℕ) (connected : Bool) (i 
 module _ (s : NetcodeServer) (d : List ℕ) (v : Bool) (compared : v ≡ alike (version_in d) (part version 0 13)) where
   pub other_version : not v ≡ true → 10 ≡ request_refusal s d
   unfolding request_refusal pick
-  other_version h = simp (sym compared ∙ not_true v h)
+  other_version h = simp (sym compared ∙ not-true v h)
 
   module _ (same : not v ≡ false) (p : ℕ) (protocol : p ≡ protocol_in d) where
     versioned : alike (version_in d) (part version 0 13) ≡ true

@@ -7,7 +7,7 @@ use native.Mathlib.Omega.{arith}
 use mathlib.Core.List.{List, [], ◌∷◌}
 use lib.ListN.{length, get_or, set}
 use lib.Dec.{eqb, ltb}
-use borrow.Author.Tests.{eq-eqb, ne_eqb, le-ltb, lt-leb, ltb-false, not_true}
+use borrow.Author.Tests.{eq-eqb, ne_eqb, le-ltb, lt-leb, ltb-false, not-true}
 use Rattle.serialize.specs.declared.Found.{Found}
 use Rattle.serialize.specs.declared.Found.TheVariants.{At}
 use Rattle.serialize.specs.Choice.{pick}
@@ -207,7 +207,7 @@ module _ (w : List ℕ) (granted : ℕ) (slots pending : List ℕ) (datagram out
   pub hears_payload : Opens w granted → (t : ℕ) → t ≡ both_refusal (set_up_in w) (length slots) (length pending) → t ≡ 0 → datagram ≡ get_or w 12 0 → out ≡ get_or w 13 0 → 1400 ≤ out
       → get_or w 22 0 < get_or w 0 0 → (p : Bool) → p ≡ ltb datagram (get_or w 26 0 + 16) → not p ≡ true → Hears w granted slots pending datagram out
   hears_payload step t is-t fits long room wide place p is-p whole =
-      let within : ltb datagram (get_or w 26 0 + 16) ≡ false = sym is-p ∙ not_true p whole in
+      let within : ltb datagram (get_or w 26 0 + 16) ≡ false = sym is-p ∙ not-true p whole in
       record {
         opens = step;
         fits = payload_fits step (sym is-t ∙ fits) long room wide place within;

@@ -9,7 +9,7 @@ use native.Mathlib.Omega.{arith}
 use mathlib.Core.List.{List}
 use lib.ListN.{length, get_or}
 use lib.Dec.{eqb, ltb}
-use borrow.Author.Tests.{eqb-true, eqb-false, ltb-false, le-ltb, not_true}
+use borrow.Author.Tests.{eqb-true, eqb-false, ltb-false, le-ltb, not-true}
 use Rattle.serialize.specs.Choice.{pick}
 use Rattle.serialize.proofs.Choice.{by_test}
 use Rattle.serialize.proofs.Lists.{get_or_splice_in, part_splice_after}
@@ -62,7 +62,7 @@ module _ (t : List ℕ) (n secs : ℕ) (shape : Shaped t n) where
   dropped_used i h =
       let x : ℕ = word_of t (expiry_at n i) in
       let e : used_at (dropped t n secs) i ≡ used_at t i && not (ltb x secs) = ap used_mark (dropped_mark i h) ∙ left_used (get_or t i 0) (ltb x secs) in (
-        λ u. let b = (and-eq-true_iff (used_at t i) (not (ltb x secs))).0 (sym e ∙ u) in (b.0, ltb-false x secs (not_true (ltb x secs) b.1)),
+        λ u. let b = (and-eq-true_iff (used_at t i) (not (ltb x secs))).0 (sym e ∙ u) in (b.0, ltb-false x secs (not-true (ltb x secs) b.1)),
         λ w. e ∙ (and-eq-true_iff (used_at t i) (not (ltb x secs))).1 (w.0, ap not (le-ltb x secs w.1)),
       )
 

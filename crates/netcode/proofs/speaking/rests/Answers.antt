@@ -1,7 +1,7 @@
 -- Not due, and by its timeout not overdue.
 use mathlib.Core.Path.{sym}
 use mathlib.Core.Bool.{true≢false}
-use borrow.Author.Tests.{not_true}
+use borrow.Author.Tests.{not-true}
 use Rattle.netcode.proofs.Speaks.{rests_at_0, rests_below_0, rests_on_time}
 use Rattle.netcode.proofs.speaking.rests.Goals as goal
 
@@ -22,4 +22,4 @@ pub returns : goal.returns
 returns c =
     let a = c.args in
     λ e. rests_on_time a.slots.now a.n a.i a.clock _ c.sent_time-sent.ensures _ c.is_due.ensures c.if-is_due.false _ c.timeout_seconds-timeout.ensures c.if-timeout-eq0.false c.if-timeout-ge-BELOW_ZERO.false _
-    c.received_time-received.ensures _ c.is_past.ensures (not_true _ e)
+    c.received_time-received.ensures _ c.is_past.ensures (not-true _ e)
