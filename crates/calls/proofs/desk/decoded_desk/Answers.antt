@@ -3,4 +3,4 @@ use mathlib.Core.Path.{◌∙◌}
 use Rattle.calls.proofs.desk.decoded_desk.Goals as goal
 
 pub returns : goal.returns
-returns c = c.lay.ensures ∙ simp (c.kept_opening.ensures, c.?Shown-of.ensures, c.said_decoding.ensures)
+returns c = c.lay.ensures ∙ simp (c.kept_opening.ensures, c.shown_of.ensures, c.said_decoding.ensures)

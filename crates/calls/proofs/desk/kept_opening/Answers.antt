@@ -6,5 +6,4 @@ use Rattle.calls.proofs.desk.kept_opening.Goals as goal
 
 pub returns-in-Open : goal.returns-in-Open
 returns-in-Open c =
-    let g = c.opening-1.given.0 in
     ap (λ (n : ℕ). keeping (1 + n) c.in-Open.sequence c.in-Open.start c.in-Open.len) c.to_u8.ensures ∙ sym (ap kept_opening c.in-Open.is)

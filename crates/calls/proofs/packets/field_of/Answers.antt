@@ -1,6 +1,7 @@
 -- Each number is a case of the definition.
 use mathlib.Core.Path.{◌∙◌}
 use borrow.Author.Tests.{ne_eqb}
+use native.Mathlib.Omega.{arith}
 use Rattle.serialize.specs.Choice.{pick}
 use Rattle.calls.specs.Packets.{field_of}
 use Rattle.calls.proofs.packets.field_of.Goals as goal
@@ -23,4 +24,6 @@ returns-in-3 c = c.token_data.ensures ∙ simp c.in-3.is
 
 pub returns-in_default : goal.returns-in_default
 unfolding field_of pick
-returns-in_default c = let v = c.args.which in let r = c.in_default.rest in c.payload.ensures ∙ simp (ne_eqb v 0 r.0.0.0.1, ne_eqb v 1 r.0.0.1, ne_eqb v 2 r.0.1, ne_eqb v 3 r.1)
+returns-in_default c =
+    let v = c.args.which in
+    c.payload.ensures ∙ simp (ne_eqb v 0 (omega arith), ne_eqb v 1 (omega arith), ne_eqb v 2 (omega arith), ne_eqb v 3 (omega arith))

@@ -13,7 +13,7 @@ pub overflow_add-stage : goal.overflow_add-stage
 overflow_add-stage c =
     let a = c.args in
     let n = c.args.server.counters in
-    let b : n.global_sequence < 256 ^ 8 = search (rules, c.?well-formed.0.1.1.1.1.1.0) in
+    let b : n.global_sequence < 256 ^ 8 = search rules in
     let k = token_ends n.global_sequence n.challenge_sequence a.server.set.challenge_key a.out.now a.token.client_id a.token.user_data b _ _ c.write_challenge-ask.ensures in
     search rules
 

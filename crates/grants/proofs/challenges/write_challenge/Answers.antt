@@ -34,7 +34,7 @@ pub returns : goal.returns
 returns c =
     let a = c.args in
     let b : a.global_sequence < 256 ^ 8 = search rules in
-    let l : length a.user_data ≡ 256 = search (rules, c.?well-formed.1.1.1.1.1.0) in
+    let l : length a.user_data ≡ 256 = search rules in
     challenge_written a.out.now a.global_sequence a.challenge_sequence a.challenge_key a.client_id a.user_data c.requires b l
     _ _ c.encode_prefix.ensures c.write_sequence-count.ensures.0 _ _ c.write_sequence-count.ensures.1 c.write_u64.ensures
     _ _ c.generate_challenge-encoded.ensures _ c.packet_ask.ensures

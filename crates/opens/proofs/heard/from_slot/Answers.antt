@@ -4,7 +4,7 @@ use Rattle.opens.proofs.Ways.{slot_whole, slot_short}
 use Rattle.opens.proofs.heard.from_slot.Goals as goal
 
 pub shape_of-slots-in-Whole : goal.shape_of-slots-in-Whole
-shape_of-slots-in-Whole c = c.slot_says.auto.1.0 ∙ c.set_received_time.auto.t ∙ c.accept.auto.table
+shape_of-slots-in-Whole c = c.slot_says.auto.slots ∙ c.set_received_time.auto.t ∙ c.accept.auto.table
 
 pub returns-in-Whole : goal.returns-in-Whole
 returns-in-Whole c =

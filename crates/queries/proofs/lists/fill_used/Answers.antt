@@ -23,7 +23,7 @@ loop-i-preserved c =
     let l = c.loop-i in
     let a = c.args in
     put_turn a.slots.now a.n a.ids a.list.now c.requires.1 l.list l.k l.i l.invariant
-    c.loop-i-test.true _ _ c.put_used-k.ensures.1 c.put_used-k.ensures.0
+    c.loop-i-test.true _ _ c.put_used-k.ensures.put c.put_used-k.ensures.next
 
 pub shape_of-list : goal.shape_of-list
 shape_of-list c = c.loop-i.invariant.3

@@ -8,7 +8,8 @@ use Rattle.queries.proofs.lists.put_used.Goals as goal
 pub returns-then-slots-i-eq0 : goal.returns-then-slots-i-eq0
 returns-then-slots-i-eq0 c =
     let a = c.args in
-    put_none a.slots.now a.n a.ids a.i a.k a.list.now c.if-slots-i-eq0.true
+    let p = put_none a.slots.now a.n a.ids a.i a.k a.list.now c.if-slots-i-eq0.true in
+    record { next = p.0; put = p.1 }
 
 pub bounds-list-k : goal.bounds-list-k
 bounds-list-k c = omega (arith, c.requires.2, used_counts (get_or c.args.slots.now c.args.i 0) c.if-slots-i-eq0.false)
@@ -16,5 +17,6 @@ bounds-list-k c = omega (arith, c.requires.2, used_counts (get_or c.args.slots.n
 pub returns : goal.returns
 returns c =
     let a = c.args in
-    put_one a.slots.now a.n a.ids a.i a.k a.list.now _ c.if-slots-i-eq0.false c.?value_of_lem.ensures
-    (omega (arith, c.requires.2, used_counts (get_or a.slots.now a.i 0) c.if-slots-i-eq0.false))
+    let p = put_one a.slots.now a.n a.ids a.i a.k a.list.now _ c.if-slots-i-eq0.false c.value_of.ensures
+    (omega (arith, c.requires.2, used_counts (get_or a.slots.now a.i 0) c.if-slots-i-eq0.false)) in
+    record { next = p.0; put = p.1 }
