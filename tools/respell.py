@@ -27,7 +27,7 @@ WORDS = {"getD": "get_or", "get_d": "get_or"}
 def own_files():
     """The files whose names are the repository's own: specs/ and the lemma files of proofs/."""
     for f in sorted(glob.glob("crates/*/specs/**/*.antt", recursive=True) + glob.glob("crates/*/proofs/**/*.antt", recursive=True)):
-        if not re.search(r"/(Proof|Answers|Invariants)\.antt$", f):
+        if not re.search(r"/proofs/.+/(Proof|Answers|Invariants)\.antt$", f):
             yield f
 
 
@@ -104,10 +104,13 @@ def renaming():
 
 def turn(text, new, of_fields, path, whole=""):
     """The text with each name respelled that stands as a word of its own; after a dot only a field of an own record."""
-    answers = re.search(r"/(Proof|Answers|Invariants)\.antt$", path) is not None
+    answers = re.search(r"/proofs/.+/(Proof|Answers|Invariants)\.antt$", path) is not None
     # The modules that the file calls by a name of its own.
     own = r"(?m)^(?:ghost )?use Rattle\.(?!std\b)\S+\.(?:specs|proofs)\.\S+ as (\w+);?$"
     alias = set(re.findall(own, whole)) - {"tie", "goal"}
+    # The names that the file takes from a library, which stay.
+    taken = re.findall(r"(?m)^(?:ghost )?use (?!Rattle\.(?!std\b))\S+\.\{([^}]*)\}", whole)
+    new = {n: s for n, s in new.items() if n not in {w.strip().split(" ")[0] for names in taken for w in names.split(",")}}
 
     def one(m):
         w = m.group(0)

@@ -17,7 +17,7 @@ use Rattle.places.specs.Finds.{find_id}
 use Rattle.places.proofs.Ways.{empty_unused}
 use Rattle.places.proofs.Searches.{id_found, true_false}
 use Rattle.records.specs.Records.{emptied}
-use Rattle.records.proofs.Invariants.{emptied-mark}
+use Rattle.records.proofs.Invariants.{emptied_mark}
 use Rattle.server.specs.declared.NetcodeServer.{NetcodeServer}
 use Rattle.server.specs.declared.Goal.{Goal}
 use Rattle.server.specs.declared.Goal.TheVariants.{Sending, Ending}
@@ -94,7 +94,7 @@ module _ (s : NetcodeServer) (slots : List ℕ) (id : ℕ) (out : List ℕ) (rea
               by_test (overdue s slots i)
               (λ late. late)
               (λ early. absurd (true_false f.here.0 (ap (λ (l : List ℕ). used_at l i) (sym (not_overdue_keeps early)) ∙ gone))),
-          λ late. ap (λ (l : List ℕ). used_at l i) (overdue_empties late room) ∙ empty_unused (emptied slots i) i (emptied-mark slots n i shape f.below),
+          λ late. ap (λ (l : List ℕ). used_at l i) (overdue_empties late room) ∙ empty_unused (emptied slots i) i (emptied_mark slots n i shape f.below),
         )
 
 -- ---- the answer to the ask that these calls leave

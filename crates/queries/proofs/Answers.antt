@@ -32,7 +32,7 @@ use Rattle.queries.proofs.Ways.{is_shaped, is_found, is_missed}
 -- ---- while an ask is open
 
 -- every query answers as if none were
-pub ask-unseen : (s : NetcodeServer) (ask : OpenAsk) (slots public list : List ℕ) (x : ℕ) (ids : Bool)
+pub ask_unseen : (s : NetcodeServer) (ask : OpenAsk) (slots public list : List ℕ) (x : ℕ) (ids : Bool)
     → (connected_clients (with_ask s ask) slots ≡ connected_clients s slots)
     × (is_connected (with_ask s ask) slots x ≡ is_connected s slots x)
     × (client_address (with_ask s ask) slots x ≡ client_address s slots x)
@@ -43,7 +43,7 @@ pub ask-unseen : (s : NetcodeServer) (ask : OpenAsk) (slots public list : List �
     × ((with_ask s ask).max_clients ≡ s.max_clients)
     × ((with_ask s ask).current_time ≡ s.current_time)
 unfolding with_ask connected_clients is_connected client_address time_since user_data_of listed_into public_into
-ask-unseen s ask slots public list x ids = (refl, refl, refl, refl, refl, refl, refl, refl, refl)
+ask_unseen s ask slots public list x ids = (refl, refl, refl, refl, refl, refl, refl, refl, refl)
 
 -- not refused as during an ask
 abbrev pub Not16 : Reply → Type 0
@@ -66,27 +66,27 @@ module _ (s : NetcodeServer) where
   abbrev Other : ℕ → Type 0
   Other n = n ≡ 16 → ⊥
 
-  slots-other : (len : ℕ) → Other (slots_refusal s.set len)
+  slots_other : (len : ℕ) → Other (slots_refusal s.set len)
   unfolding length_refusal
-  slots-other len =
+  slots_other len =
       either Other _ 23 _ (λ e. omega arith) (either Other _ 23 _ (λ e. omega arith) (either Other _ 0 23 (λ e. omega arith) (λ e. omega arith)))
 
-  list-other : (len : ℕ) → Other (list_refusal s.set len)
+  list_other : (len : ℕ) → Other (list_refusal s.set len)
   unfolding list_refusal
-  list-other len = either Other _ 0 23 (λ e. omega arith) (λ e. omega arith)
+  list_other len = either Other _ 0 23 (λ e. omega arith) (λ e. omega arith)
 
-  pub never-16 : (slots public list : List ℕ) (x : ℕ) (ids : Bool)
+  pub never_16 : (slots public list : List ℕ) (x : ℕ) (ids : Bool)
       → Not16 (connected_clients s slots) × Not16 (is_connected s slots x) × Not16 (client_address s slots x) × Not16 (time_since s slots x)
       × Not16 (user_data_of s slots x list).reply × Not16 (listed_into s slots ids list).reply × Not16 (public_into s public list).reply
   unfolding number_of connected_clients is_connected client_address time_since user_data_of listed_into public_into
-  never-16 slots public list x ids = (
-    either Not16 _ _ _ (λ e. omega arith) (slots-other (length slots)),
-    either Not16 _ _ _ (wherever Not16 _ _ _ (λ i e. omega arith) (λ e. omega arith)) (slots-other (length slots)),
-    either Not16 _ _ _ (wherever Not16 _ _ _ (λ i e. omega arith) (λ e. omega arith)) (slots-other (length slots)),
-    either Not16 _ _ _ (wherever Not16 _ _ _ (λ i e. omega arith) (λ e. omega arith)) (slots-other (length slots)),
-    either OutcomeNot16 _ _ _ (wherever OutcomeNot16 _ _ _ (λ i e. omega arith) (λ e. omega arith)) (slots-other (length slots)),
-    either OutcomeNot16 _ _ _ (either OutcomeNot16 _ _ _ (λ e. omega arith) (λ e. omega arith)) (slots-other (length slots)),
-    either OutcomeNot16 _ _ _ (either OutcomeNot16 _ _ _ (λ e. omega arith) (λ e. omega arith)) (list-other (length public)),
+  never_16 slots public list x ids = (
+    either Not16 _ _ _ (λ e. omega arith) (slots_other (length slots)),
+    either Not16 _ _ _ (wherever Not16 _ _ _ (λ i e. omega arith) (λ e. omega arith)) (slots_other (length slots)),
+    either Not16 _ _ _ (wherever Not16 _ _ _ (λ i e. omega arith) (λ e. omega arith)) (slots_other (length slots)),
+    either Not16 _ _ _ (wherever Not16 _ _ _ (λ i e. omega arith) (λ e. omega arith)) (slots_other (length slots)),
+    either OutcomeNot16 _ _ _ (wherever OutcomeNot16 _ _ _ (λ i e. omega arith) (λ e. omega arith)) (slots_other (length slots)),
+    either OutcomeNot16 _ _ _ (either OutcomeNot16 _ _ _ (λ e. omega arith) (λ e. omega arith)) (slots_other (length slots)),
+    either OutcomeNot16 _ _ _ (either OutcomeNot16 _ _ _ (λ e. omega arith) (λ e. omega arith)) (list_other (length public)),
   )
 
 -- ---- by an id, of a table that is set-up's
@@ -103,13 +103,13 @@ module _ (s : NetcodeServer) (slots : List ℕ) (x : ℕ) (taken : slots_refusal
   missed = id_none slots s.set.slots (is_shaped s slots _ refl taken) x
 
   -- the lowest slot with the id answers
-  pub lowest-answers : (j : ℕ) → LowestOf (Named s slots x) s.set.slots j → (out : List ℕ)
+  pub lowest_answers : (j : ℕ) → LowestOf (Named s slots x) s.set.slots j → (out : List ℕ)
       → (is_connected s slots x ≡ Connected)
       × (client_address s slots x ≡ Addr (address_of slots s.set.slots j))
       × (time_since s slots x ≡ Since (since s.current_time (time_at slots (received_at s.set.slots j))))
       × (user_data_of s slots x out ≡ told UserData (bytes_at slots (user_data_at s.set.slots j) 32))
   unfolding is_connected client_address time_since user_data_of
-  lowest-answers j w out = (by Refused _ _, by Refused _ _, by Refused _ _, by (λ n. told (Refused n) out) _ _)
+  lowest_answers j w out = (by Refused _ _, by Refused _ _, by Refused _ _, by (λ n. told (Refused n) out) _ _)
     where
       by : {A : Type 0} (refused at : ℕ → A) (none : A) → with_slots s slots refused (by_slot (find_id slots s.set.slots x) at none) ≡ at j
       by refused at none = sym (is_found s slots _ refl taken x _ refl refused at none j ((found j).1 w))
@@ -127,8 +127,8 @@ module _ (s : NetcodeServer) (slots : List ℕ) (x : ℕ) (taken : slots_refusal
       by refused at none = sym (is_missed s slots _ refl taken x _ refl refused at none (missed.1 w))
 
   -- connected exactly where some used slot has the id
-  pub connected-exactly : (is_connected s slots x ≡ Connected) ↔ SomeOf (Named s slots x) s.set.slots
-  connected-exactly = (
+  pub connected_exactly : (is_connected s slots x ≡ Connected) ↔ SomeOf (Named s slots x) s.set.slots
+  connected_exactly = (
     λ e. by_search (find_id slots s.set.slots x) refl
         (λ j f. let w = (found j).0 f in record { place = j; below = w.below; here = w.here })
         (λ f.
@@ -136,7 +136,7 @@ module _ (s : NetcodeServer) (slots : List ℕ) (x : ℕ) (taken : slots_refusal
         let z : ◌≡◌ {A = ℕ} 0 1 = cc in
         absurd (omega arith)),
     λ w. by_search (find_id slots s.set.slots x) refl
-        (λ j f. (lowest-answers j ((found j).0 f) []).0)
+        (λ j f. (lowest_answers j ((found j).0 f) []).0)
         (λ f. absurd (missed.0 f w.place w.below w.here)),
   )
     where

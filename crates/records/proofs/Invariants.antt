@@ -30,14 +30,14 @@ use Rattle.records.proofs.Filled.{body_length_lem}
 -- ---- emptying
 
 module _ (t : List ℕ) (n i : ℕ) (shape : Shaped t n) (here : i < n) where
-  pub emptied-mark : get_or (emptied t i) i 0 ≡ 0
-  emptied-mark = get_or-set_same t i 0 0 (omega (arith, shape.long))
+  pub emptied_mark : get_or (emptied t i) i 0 ≡ 0
+  emptied_mark = get_or-set_same t i 0 0 (omega (arith, shape.long))
 
-  pub emptied-distinct : (key : Field) → Within key → Distinct key t n → Distinct key (emptied t i) n
-  emptied-distinct key w d = distinct_emptied n i t (emptied t i) (emptied_elsewhere t n i shape here) key w d (empty_unused (emptied t i) i emptied-mark)
+  pub emptied_distinct : (key : Field) → Within key → Distinct key t n → Distinct key (emptied t i) n
+  emptied_distinct key w d = distinct_emptied n i t (emptied t i) (emptied_elsewhere t n i shape here) key w d (empty_unused (emptied t i) i emptied_mark)
 
-  pub emptied-count : (get_or t i 0 ≡ 0 → ⊥) → used_count (emptied t i) n + 1 ≡ used_count t n
-  emptied-count u = count_emptied t (emptied t i) n i (mark_kept n i t (emptied t i) (emptied_elsewhere t n i shape here)) here u emptied-mark
+  pub emptied_count : (get_or t i 0 ≡ 0 → ⊥) → used_count (emptied t i) n + 1 ≡ used_count t n
+  emptied_count u = count_emptied t (emptied t i) n i (mark_kept n i t (emptied t i) (emptied_elsewhere t n i shape here)) here u emptied_mark
 
   -- ---- a record put into place i
 
@@ -49,25 +49,25 @@ module _ (t : List ℕ) (n i : ℕ) (shape : Shaped t n) (here : i < n) where
     unfolding u
     else = placed_elsewhere t n i shape here x words body three full
 
-    pub placed-distinct-addresses : NoneOf (Keyed t n addr words) n → Distinct addr t n → Distinct addr (placed t n i x words body) n
+    pub placed_distinct_addresses : NoneOf (Keyed t n addr words) n → Distinct addr t n → Distinct addr (placed t n i x words body) n
     unfolding u
-    placed-distinct-addresses none d = distinct_filled n i t u else addr (omega arith) d words (placed_address t n i shape here x words body three full) none
+    placed_distinct_addresses none d = distinct_filled n i t u else addr (omega arith) d words (placed_address t n i shape here x words body three full) none
 
-    pub placed-distinct-ids : NoneOf (Keyed t n id (x ∷ [])) n → Distinct id t n → Distinct id (placed t n i x words body) n
+    pub placed_distinct_ids : NoneOf (Keyed t n id (x ∷ [])) n → Distinct id t n → Distinct id (placed t n i x words body) n
     unfolding u
-    placed-distinct-ids none d = distinct_filled n i t u else id (omega arith) d (x ∷ []) (placed_id t n i shape here x words body three full) none
+    placed_distinct_ids none d = distinct_filled n i t u else id (omega arith) d (x ∷ []) (placed_id t n i shape here x words body three full) none
 
     -- at a free place: one more is used
-    pub placed-count : get_or t i 0 ≡ 0 → used_count (placed t n i x words body) n ≡ used_count t n + 1
+    pub placed_count : get_or t i 0 ≡ 0 → used_count (placed t n i x words body) n ≡ used_count t n + 1
     unfolding u
-    placed-count free =
+    placed_count free =
         let one : get_or u i 0 ≡ 1 = placed_mark t n i shape here x words body three full in
         count_taken t u n i (mark_kept n i t u else) here free (λ e. omega arith)
 
     -- with an address that no used place had, or an id: the search finds it there
-    pub placed-found-address : NoneOf (Keyed t n addr words) n → LowestOf (Keyed (placed t n i x words body) n addr words) n i
+    pub placed_found_address : NoneOf (Keyed t n addr words) n → LowestOf (Keyed (placed t n i x words body) n addr words) n i
     unfolding u
-    placed-found-address none = record {
+    placed_found_address none = record {
       below = here;
       here = (placed_used t n i shape here x words body three full, placed_address t n i shape here x words body three full);
       none = λ m h k.
@@ -76,9 +76,9 @@ module _ (t : List ℕ) (n i : ℕ) (shape : Shaped t n) (here : i < n) where
           none m b (sym (used_kept n i t u else m b d) ∙ k.0, sym (else.same m b d addr (omega arith)) ∙ k.1);
     }
 
-    pub placed-found-id : NoneOf (Keyed t n id (x ∷ [])) n → LowestOf (Keyed (placed t n i x words body) n id (x ∷ [])) n i
+    pub placed_found_id : NoneOf (Keyed t n id (x ∷ [])) n → LowestOf (Keyed (placed t n i x words body) n id (x ∷ [])) n i
     unfolding u
-    placed-found-id none = record {
+    placed_found_id none = record {
       below = here;
       here = (placed_used t n i shape here x words body three full, placed_id t n i shape here x words body three full);
       none = λ m h k.
@@ -90,33 +90,33 @@ module _ (t : List ℕ) (n i : ℕ) (shape : Shaped t n) (here : i < n) where
 -- ---- filling, by what the searches said
 
 module _ (t : List ℕ) (n i : ℕ) (shape : Shaped t n) (here : i < n) (c : Connection) (sized : Sized c) where
-  pub filled-distinct-addresses : find_address t n c.addr ≡ Nothing → Distinct addr t n → Distinct addr (filled t n i c) n
-  filled-distinct-addresses e = placed-distinct-addresses t n i shape here c.client_id (words_of c.addr) (body_of c) refl (body_length_lem c sized) ((address_none t n shape c.addr).0 e)
+  pub filled_distinct_addresses : find_address t n c.addr ≡ Nothing → Distinct addr t n → Distinct addr (filled t n i c) n
+  filled_distinct_addresses e = placed_distinct_addresses t n i shape here c.client_id (words_of c.addr) (body_of c) refl (body_length_lem c sized) ((address_none t n shape c.addr).0 e)
 
-  pub filled-distinct-ids : find_id t n c.client_id ≡ Nothing → Distinct id t n → Distinct id (filled t n i c) n
-  filled-distinct-ids e = placed-distinct-ids t n i shape here c.client_id (words_of c.addr) (body_of c) refl (body_length_lem c sized) ((id_none t n shape c.client_id).0 e)
+  pub filled_distinct_ids : find_id t n c.client_id ≡ Nothing → Distinct id t n → Distinct id (filled t n i c) n
+  filled_distinct_ids e = placed_distinct_ids t n i shape here c.client_id (words_of c.addr) (body_of c) refl (body_length_lem c sized) ((id_none t n shape c.client_id).0 e)
 
   -- the record is found by its address and by its id
-  pub filled-finds-address : find_address t n c.addr ≡ Nothing → find_address (filled t n i c) n c.addr ≡ At i
-  filled-finds-address e =
+  pub filled_finds_address : find_address t n c.addr ≡ Nothing → find_address (filled t n i c) n c.addr ≡ At i
+  filled_finds_address e =
       let whole = body_length_lem c sized in
       let kept = (placed_elsewhere t n i shape here c.client_id (words_of c.addr) (body_of c) refl whole).long in
       (address_found (filled t n i c) n (shaped_kept kept shape) c.addr i).1
-      (placed-found-address t n i shape here c.client_id (words_of c.addr) (body_of c) refl whole ((address_none t n shape c.addr).0 e))
+      (placed_found_address t n i shape here c.client_id (words_of c.addr) (body_of c) refl whole ((address_none t n shape c.addr).0 e))
 
-  pub filled-finds-id : find_id t n c.client_id ≡ Nothing → find_id (filled t n i c) n c.client_id ≡ At i
-  filled-finds-id e =
+  pub filled_finds_id : find_id t n c.client_id ≡ Nothing → find_id (filled t n i c) n c.client_id ≡ At i
+  filled_finds_id e =
       let whole = body_length_lem c sized in
       let kept = (placed_elsewhere t n i shape here c.client_id (words_of c.addr) (body_of c) refl whole).long in
       (id_found (filled t n i c) n (shaped_kept kept shape) c.client_id i).1
-      (placed-found-id t n i shape here c.client_id (words_of c.addr) (body_of c) refl whole ((id_none t n shape c.client_id).0 e))
+      (placed_found_id t n i shape here c.client_id (words_of c.addr) (body_of c) refl whole ((id_none t n shape c.client_id).0 e))
 
-  pub filled-count : get_or t i 0 ≡ 0 → used_count (filled t n i c) n ≡ used_count t n + 1
-  filled-count = placed-count t n i shape here c.client_id (words_of c.addr) (body_of c) refl (body_length_lem c sized)
+  pub filled_count : get_or t i 0 ≡ 0 → used_count (filled t n i c) n ≡ used_count t n + 1
+  filled_count = placed_count t n i shape here c.client_id (words_of c.addr) (body_of c) refl (body_length_lem c sized)
 
   -- and the other places are as they were
-  pub filled-elsewhere : Elsewhere n i t (filled t n i c)
-  filled-elsewhere = placed_elsewhere t n i shape here c.client_id (words_of c.addr) (body_of c) refl (body_length_lem c sized)
+  pub filled_elsewhere : Elsewhere n i t (filled t n i c)
+  filled_elsewhere = placed_elsewhere t n i shape here c.client_id (words_of c.addr) (body_of c) refl (body_length_lem c sized)
 
 -- ---- moving, where no used slot has the record's address or its id
 
@@ -127,26 +127,26 @@ module _ (slots : List ℕ) (n i : ℕ) (pending : List ℕ) (m j : ℕ) (shape 
   body : List ℕ
   body = part pending (body_at m j) body_words
 
-  pub moved-distinct-addresses : NoneOf (Keyed slots n addr (part pending (address_at m j) 3)) n → Distinct addr slots n → Distinct addr (moved slots n i pending m j) n
+  pub moved_distinct_addresses : NoneOf (Keyed slots n addr (part pending (address_at m j) 3)) n → Distinct addr slots n → Distinct addr (moved slots n i pending m j) n
   unfolding words body
-  moved-distinct-addresses = placed-distinct-addresses slots n i shape here (id_of pending m j) words body (length_part pending (address_at m j) 3 (omega (arith, from.long))) (length_part pending (body_at m j) body_words (omega (arith, from.long)))
+  moved_distinct_addresses = placed_distinct_addresses slots n i shape here (id_of pending m j) words body (length_part pending (address_at m j) 3 (omega (arith, from.long))) (length_part pending (body_at m j) body_words (omega (arith, from.long)))
 
-  pub moved-distinct-ids : NoneOf (Keyed slots n id (id_of pending m j ∷ [])) n → Distinct id slots n → Distinct id (moved slots n i pending m j) n
+  pub moved_distinct_ids : NoneOf (Keyed slots n id (id_of pending m j ∷ [])) n → Distinct id slots n → Distinct id (moved slots n i pending m j) n
   unfolding words body
-  moved-distinct-ids = placed-distinct-ids slots n i shape here (id_of pending m j) words body (length_part pending (address_at m j) 3 (omega (arith, from.long))) (length_part pending (body_at m j) body_words (omega (arith, from.long)))
+  moved_distinct_ids = placed_distinct_ids slots n i shape here (id_of pending m j) words body (length_part pending (address_at m j) 3 (omega (arith, from.long))) (length_part pending (body_at m j) body_words (omega (arith, from.long)))
 
 -- ---- set-up: every place is free
 
 module _ (t : List ℕ) (n : ℕ) (shape : Shaped t n) where
-  pub set-up-free : (m : ℕ) → m < n → Free (splice t 0 (zeros n)) m
-  set-up-free m h =
+  pub set_up_free : (m : ℕ) → m < n → Free (splice t 0 (zeros n)) m
+  set_up_free m h =
       let k : length (zeros n) ≡ n = length-replicate n 0 in
       ap (λ (j : ℕ). get_or (splice t 0 (zeros n)) j 0) (sym (zero-add m))
       ∙ get_or_splice_in t 0 (zeros n) m (omega (arith, shape.long)) (omega arith)
       ∙ get_or-replicate n m 0 0 h
 
-  pub set-up-count : used_count (splice t 0 (zeros n)) n ≡ 0
-  set-up-count = all_free_count (splice t 0 (zeros n)) n set-up-free
+  pub set_up_count : used_count (splice t 0 (zeros n)) n ≡ 0
+  set_up_count = all_free_count (splice t 0 (zeros n)) n set_up_free
 
-  pub set-up-distinct : (key : Field) → Distinct key (splice t 0 (zeros n)) n
-  set-up-distinct key i j h k a b e = absurd (true_false a (empty_unused (splice t 0 (zeros n)) i (set-up-free i h)))
+  pub set_up_distinct : (key : Field) → Distinct key (splice t 0 (zeros n)) n
+  set_up_distinct key i j h k a b e = absurd (true_false a (empty_unused (splice t 0 (zeros n)) i (set_up_free i h)))

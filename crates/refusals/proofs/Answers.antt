@@ -25,8 +25,8 @@ same_refusal e = cc
 pub not_asked : {n : ℕ} → answer.Ask ≡ answer.Refused n → ⊥
 not_asked e = let z : ◌≡◌ {A = ℕ} 0 1 = cc in omega arith
 
-pub not-nothing : {n : ℕ} → answer.Nothing ≡ answer.Refused n → ⊥
-not-nothing e = let z : ◌≡◌ {A = ℕ} 0 1 = cc in omega arith
+pub not_nothing : {n : ℕ} → answer.Nothing ≡ answer.Refused n → ⊥
+not_nothing e = let z : ◌≡◌ {A = ℕ} 0 1 = cc in omega arith
 
 -- ---- the tables' number is 23
 
@@ -50,26 +50,26 @@ either a b f g n = by (eqb a 0) refl n
     by true e k = g k
     by false e k = f k
 
-pub length-23 : (len n most : ℕ) → (length_refusal len n most ≡ 0 → ⊥) → length_refusal len n most ≡ 23
+pub length_23 : (len n most : ℕ) → (length_refusal len n most ≡ 0 → ⊥) → length_refusal len n most ≡ 23
 unfolding length_refusal
-length-23 len n most = three (eqb n 0) (ltb most n) (eqb len (n * place_words))
+length_23 len n most = three (eqb n 0) (ltb most n) (eqb len (n * place_words))
 
 module _ (set : SetUp) (slots pending : ℕ) where
-  pub both-23 : (both_refusal set slots pending ≡ 0 → ⊥) → both_refusal set slots pending ≡ 23
-  both-23 = either (slots_refusal set slots) (pending_refusal set pending) (length-23 slots set.slots 1024) (length-23 pending set.pending 4096)
+  pub both_23 : (both_refusal set slots pending ≡ 0 → ⊥) → both_refusal set slots pending ≡ 23
+  both_23 = either (slots_refusal set slots) (pending_refusal set pending) (length_23 slots set.slots 1024) (length_23 pending set.pending 4096)
 
-  entries-23 : (entries : ℕ) → (entries_refusal set entries ≡ 0 → ⊥) → entries_refusal set entries ≡ 23
+  entries_23 : (entries : ℕ) → (entries_refusal set entries ≡ 0 → ⊥) → entries_refusal set entries ≡ 23
   unfolding entries_refusal
-  entries-23 entries = three (eqb set.entries 0) (ltb 2048 set.entries) (eqb entries (set.entries * 48))
+  entries_23 entries = three (eqb set.entries 0) (ltb 2048 set.entries) (eqb entries (set.entries * 48))
 
-  list-23 : (public : ℕ) → (list_refusal set public ≡ 0 → ⊥) → list_refusal set public ≡ 23
+  list_23 : (public : ℕ) → (list_refusal set public ≡ 0 → ⊥) → list_refusal set public ≡ 23
   unfolding list_refusal
-  list-23 public = last (eqb public (set.addresses * 3))
+  list_23 public = last (eqb public (set.addresses * 3))
 
-  pub all-23 : (entries public : ℕ) → (all_refusal set slots pending entries public ≡ 0 → ⊥) → all_refusal set slots pending entries public ≡ 23
-  all-23 entries public =
-      either (both_refusal set slots pending) (before (entries_refusal set entries) (list_refusal set public)) both-23
-      (either (entries_refusal set entries) (list_refusal set public) (entries-23 entries) (list-23 public))
+  pub all_23 : (entries public : ℕ) → (all_refusal set slots pending entries public ≡ 0 → ⊥) → all_refusal set slots pending entries public ≡ 23
+  all_23 entries public =
+      either (both_refusal set slots pending) (before (entries_refusal set entries) (list_refusal set public)) both_23
+      (either (entries_refusal set entries) (list_refusal set public) (entries_23 entries) (list_23 public))
 
 -- ---- 17, 23, 18
 
@@ -77,33 +77,33 @@ module _ (t : State) (tables kind datagram out : ℕ) where
   abbrev r : ℕ
   r = answer_refusal t.server.ask tables kind t.server.set datagram out
 
-  pub idle-17 : t.server.ask.stage ≡ Idle → r ≡ 17
+  pub idle_17 : t.server.ask.stage ≡ Idle → r ≡ 17
   unfolding answer_refusal pick
-  idle-17 e = simp (eq-eqb (kind_of t.server.ask.stage) 0 (idle_is_0 t.server.ask.stage e))
+  idle_17 e = simp (eq-eqb (kind_of t.server.ask.stage) 0 (idle_is_0 t.server.ask.stage e))
 
   opened : Open t → eqb (kind_of t.server.ask.stage) 0 ≡ false
-  opened o = ne_eqb (kind_of t.server.ask.stage) 0 (λ z. o.open-ask (idle_only t.server.ask.stage z))
+  opened o = ne_eqb (kind_of t.server.ask.stage) 0 (λ z. o.open_ask (idle_only t.server.ask.stage z))
 
-  pub tables-said : Open t → (tables ≡ 0 → ⊥) → r ≡ tables
+  pub tables_said : Open t → (tables ≡ 0 → ⊥) → r ≡ tables
   unfolding answer_refusal pick
-  tables-said o n = simp (opened o, ne_eqb tables 0 n)
+  tables_said o n = simp (opened o, ne_eqb tables 0 n)
 
-  unfit-18 : Open t → tables ≡ 0 → unfit t.server.ask kind t.server.set datagram out ≡ true → r ≡ 18
+  unfit_18 : Open t → tables ≡ 0 → unfit t.server.ask kind t.server.set datagram out ≡ true → r ≡ 18
   unfolding answer_refusal pick
-  unfit-18 o e u = simp (opened o, eq-eqb tables 0 e, u)
+  unfit_18 o e u = simp (opened o, eq-eqb tables 0 e, u)
 
-  unfit-0 : Open t → tables ≡ 0 → unfit t.server.ask kind t.server.set datagram out ≡ false → r ≡ 0
+  unfit_0 : Open t → tables ≡ 0 → unfit t.server.ask kind t.server.set datagram out ≡ false → r ≡ 0
   unfolding answer_refusal pick
-  unfit-0 o e u = simp (opened o, eq-eqb tables 0 e, u)
+  unfit_0 o e u = simp (opened o, eq-eqb tables 0 e, u)
 
   -- the test for 18 is passed exactly by an answer that fits
-  fits-pass : Fit t kind datagram out → unfit t.server.ask kind t.server.set datagram out ≡ false
+  fits_pass : Fit t kind datagram out → unfit t.server.ask kind t.server.set datagram out ≡ false
   unfolding unfit
-  fits-pass f =
+  fits_pass f =
       simp (
         eq-eqb (kind_of t.server.ask.stage) kind f.wanted,
-        eq-eqb datagram t.server.ask.datagram f.datagram-same,
-        eq-eqb out t.server.ask.out f.out-same,
+        eq-eqb datagram t.server.ask.datagram f.datagram_same,
+        eq-eqb out t.server.ask.out f.out_same,
         f.fits,
       )
 
@@ -112,11 +112,11 @@ module _ (t : State) (tables kind datagram out : ℕ) where
       let a = answer_fits t.server.ask tables kind t.server.set datagram out h in
       record { wanted = a.wanted; datagram_same = a.same_datagram; out_same = a.same_out; fits = a.fitting }
 
-  pub fit-0 : Open t → tables ≡ 0 → Fit t kind datagram out → r ≡ 0
-  fit-0 o e f = unfit-0 o e (fits-pass f)
+  pub fit_0 : Open t → tables ≡ 0 → Fit t kind datagram out → r ≡ 0
+  fit_0 o e f = unfit_0 o e (fits_pass f)
 
-  pub no-fit-18 : Open t → tables ≡ 0 → (Fit t kind datagram out → ⊥) → r ≡ 18
-  no-fit-18 o e n = by_test (unfit t.server.ask kind t.server.set datagram out) (λ u. unfit-18 o e u) (λ u. absurd (n (pass_fits (unfit-0 o e u))))
+  pub no_fit_18 : Open t → tables ≡ 0 → (Fit t kind datagram out → ⊥) → r ≡ 18
+  no_fit_18 o e n = by_test (unfit t.server.ask kind t.server.set datagram out) (λ u. unfit_18 o e u) (λ u. absurd (n (pass_fits (unfit_0 o e u))))
 
   -- the first test that fails, or none
   pub by_answer : {A : Type 0} → (t.server.ask.stage ≡ Idle → A) → (Open t → (tables ≡ 0 → ⊥) → A)
@@ -131,8 +131,8 @@ module _ (t : State) (tables kind datagram out : ℕ) where
       (λ c.
       let e : tables ≡ 0 = eqb-true tables 0 c in
       by_test (unfit t.server.ask kind t.server.set datagram out)
-      (λ u. h o e (λ x. true_false u (fits-pass x)))
-      (λ u. k o e (pass_fits (unfit-0 o e u))))
+      (λ u. h o e (λ x. true_false u (fits_pass x)))
+      (λ u. k o e (pass_fits (unfit_0 o e u))))
       (λ c. g o (eqb-false tables 0 c)))
 
   -- ---- and the output of 1,400 bytes
@@ -148,30 +148,30 @@ module _ (t : State) (tables kind datagram out : ℕ) where
   unfolding open_refusal before pick
   passed e = simp e
 
-  pub open-17 : t.server.ask.stage ≡ Idle → q ≡ 17
-  open-17 e = stopped 17 (idle-17 e) (λ z. omega arith)
+  pub open_17 : t.server.ask.stage ≡ Idle → q ≡ 17
+  open_17 e = stopped 17 (idle_17 e) (λ z. omega arith)
 
-  pub open-tables : Open t → (tables ≡ 0 → ⊥) → q ≡ tables
-  open-tables o n = stopped tables (tables-said o n) n
+  pub open_tables : Open t → (tables ≡ 0 → ⊥) → q ≡ tables
+  open_tables o n = stopped tables (tables_said o n) n
 
-  pub open-0 : OpenFit t kind tables datagram out → q ≡ 0
+  pub open_0 : OpenFit t kind tables datagram out → q ≡ 0
   unfolding pick
-  open-0 f = passed (fit-0 f.open-ask f.tables-same f.fit) ∙ simp (le-ltb out 1400 f.room)
+  open_0 f = passed (fit_0 f.open_ask f.tables_same f.fit) ∙ simp (le-ltb out 1400 f.room)
 
-  pub open-18 : Open t → tables ≡ 0 → (OpenFit t kind tables datagram out → ⊥) → q ≡ 18
+  pub open_18 : Open t → tables ≡ 0 → (OpenFit t kind tables datagram out → ⊥) → q ≡ 18
   unfolding pick
-  open-18 o e n =
+  open_18 o e n =
       by_test (unfit t.server.ask kind t.server.set datagram out)
-      (λ u. stopped 18 (unfit-18 o e u) (λ z. omega arith))
+      (λ u. stopped 18 (unfit_18 o e u) (λ z. omega arith))
       (λ u.
-      let p = unfit-0 o e u in
+      let p = unfit_0 o e u in
       by_test (ltb out 1400)
       (λ b. passed p ∙ simp b)
       (λ b. absurd (n (record { open_ask = o; tables_same = e; fit = pass_fits p; room = ltb-false out 1400 b }))))
 
-  pub by-open : {A : Type 0} → (t.server.ask.stage ≡ Idle → A) → (Open t → (tables ≡ 0 → ⊥) → A)
+  pub by_open : {A : Type 0} → (t.server.ask.stage ≡ Idle → A) → (Open t → (tables ≡ 0 → ⊥) → A)
       → (Open t → tables ≡ 0 → (OpenFit t kind tables datagram out → ⊥) → A) → (OpenFit t kind tables datagram out → A) → A
-  by-open f g h k =
+  by_open f g h k =
       by_answer f g
       (λ o e n. h o e (λ x. n x.fit))
       (λ o e x.

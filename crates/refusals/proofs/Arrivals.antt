@@ -40,7 +40,7 @@ use Rattle.arrivals.specs.declared.Sender.{Sender}
 use Rattle.arrivals.specs.declared.Sender.TheVariants.{Connected, Pending, Unknown}
 use Rattle.arrivals.specs.Requests.{version_in, protocol_in, expiry_in, request_refusal, token_asked, request_read}
 use Rattle.arrivals.specs.Arrivals.{lent_refusal, arrival_refusal, window_refusal, open_asked, sealed_at, by_start, sealed_from, request_from, sender_in, kind_arrives, by_kind, arrives}
-use Rattle.refusals.proofs.Answers.{same_refusal, not_asked, not-nothing, both-23}
+use Rattle.refusals.proofs.Answers.{same_refusal, not_asked, not_nothing, both_23}
 use Rattle.refusals.specs.Arriving.{Idly, Tabled, Taken, Typed, Asking, Stands, in_slot, waits, Sent, Passes, ArrivalSays, says_16, says_23, says_14, says_19, says_1, says_2, says_9, says_10, says_11, says_12, says_3, says_4, says_5, says_6, says_7, ArrivalLeaves, nothing, received}
 
 -- ---- senders that are not the same
@@ -134,7 +134,7 @@ module _ (t : State) (addr : Address) (out : ℕ) (d : List ℕ) where
 
   arrival_23 : Idly t → (both ≡ 0 → ⊥) → arrival_refusal t addr out ≡ 23
   unfolding arrival_refusal before pick
-  arrival_23 k f = simp (idle_passes t.server.ask both k.idle ∙ both-23 t.server.set (length t.slots) (length t.pending) f)
+  arrival_23 k f = simp (idle_passes t.server.ask both k.idle ∙ both_23 t.server.set (length t.slots) (length t.pending) f)
 
   arrival_lent : Tabled t → arrival_refusal t addr out ≡ lent_refusal addr out
   unfolding arrival_refusal before pick
@@ -390,7 +390,7 @@ module _ (t : State) (addr : Address) (out : ℕ) (d : List ℕ) where
   settle : (n : ℕ) → Verdict → (arrives t addr out d).answer ≡ Refused n → ArrivalSays t addr out d n
   settle n (line m s) e = subst (λ (x : ℕ). ArrivalSays t addr out d x) (same_refusal (sym (gives_answer m s) ∙ e)) s
   settle n (asks f) e = absurd (not_asked (sym f ∙ e))
-  settle n (silent f) e = absurd (not-nothing (sym f ∙ e))
+  settle n (silent f) e = absurd (not_nothing (sym f ∙ e))
 
   -- A DATAGRAM IS REFUSED BY n EXACTLY WHEN THE TABLE SAYS n
   pub arrivals_exactly : (n : ℕ) → ((arrives t addr out d).answer ≡ Refused n) ↔ ArrivalSays t addr out d n

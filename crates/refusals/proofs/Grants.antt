@@ -27,7 +27,7 @@ use Rattle.grants.specs.declared.PrivateConnectToken.{PrivateConnectToken}
 use Rattle.grants.specs.Tokens.{Met, met, beside, raised, challenge_sent, challenged, dropped, welcomed, is_connected, no_place, use_of, Admitted, admitted, by_entry, considered}
 use Rattle.grants.specs.Grants.{Granted, granted, list_unfit, fields_refusal, grant_refusal, foreign, from_token, granted_at, grants}
 use Rattle.refusals.specs.Answering.{OpenFit, all_of, Admits, GrantSpent, full, challenge, global, GrantSays, grants_17, grants_23, grants_18, grants_18_fields, grants_8, grants_13, grants_15, GrantLeaves, nothing, closed_8, closed_13, dropped_15, challenge_15, raised_15}
-use Rattle.refusals.proofs.Answers.{same_refusal, not_asked, not-nothing, all-23, open-17, open-tables, open-0, open-18, by-open}
+use Rattle.refusals.proofs.Answers.{same_refusal, not_asked, not_nothing, all_23, open_17, open_tables, open_0, open_18, by_open}
 
 -- ---- a sender who may be answered: denied where there is no room, else the challenge
 
@@ -144,7 +144,7 @@ module _ (t : State) (given : Bool) (p : PrivateConnectToken) (list entries publ
 
   test_passes : Fits → r ≡ fields_refusal given list
   unfolding grant_refusal before pick
-  test_passes f = simp (eq-eqb q 0 (open-0 t (all_of t entries public) 2 datagram (length out) f))
+  test_passes f = simp (eq-eqb q 0 (open_0 t (all_of t entries public) 2 datagram (length out) f))
 
   fields_18 : Fits → given ≡ true → list_unfit list ≡ true → r ≡ 18
   unfolding fields_refusal pick
@@ -249,14 +249,14 @@ module _ (t : State) (given : Bool) (p : PrivateConnectToken) (list entries publ
   -- ---- a line of the table gives its number
 
   line_told : (n : ℕ) → GrantSays t given p list entries public out datagram n → Told n whole
-  line_told n (grants_17 e) = stops 17 (omega arith) (omega arith) (test_stops 17 (λ z. omega arith) (open-17 t (all_of t entries public) 2 datagram (length out) e))
+  line_told n (grants_17 e) = stops 17 (omega arith) (omega arith) (test_stops 17 (λ z. omega arith) (open_17 t (all_of t entries public) 2 datagram (length out) e))
   line_told n (grants_23 o z) =
       stops 23 (omega arith) (omega arith)
       (test_stops 23 (λ y. omega arith)
-      (open-tables t (all_of t entries public) 2 datagram (length out) o z
-      ∙ all-23 t.server.set (length t.slots) (length t.pending) (length entries) (length public) z))
+      (open_tables t (all_of t entries public) 2 datagram (length out) o z
+      ∙ all_23 t.server.set (length t.slots) (length t.pending) (length entries) (length public) z))
   line_told n (grants_18 o e f) =
-      stops 18 (omega arith) (omega arith) (test_stops 18 (λ z. omega arith) (open-18 t (all_of t entries public) 2 datagram (length out) o e f))
+      stops 18 (omega arith) (omega arith) (test_stops 18 (λ z. omega arith) (open_18 t (all_of t entries public) 2 datagram (length out) o e f))
   line_told n (grants_18_fields f g l) = stops 18 (omega arith) (omega arith) (fields_18 f g l)
   line_told n (grants_8 f g) =
       subst (Told 8) (sym (at_no f g)) (record { answer = refl; left = closed_8; kept = λ z. refl; added = λ z. absurd (omega arith); held_same = refl; out_same = refl })
@@ -282,7 +282,7 @@ module _ (t : State) (given : Bool) (p : PrivateConnectToken) (list entries publ
       (λ e. silent o (used addr low high).entries (at_taken f g l addr expiry low high s c n e)))))
     where
       silent : foreign t.server.set list public ≡ false → (left : List ℕ) → case f g l addr expiry low high s ≡ silence f g l addr expiry low high s left → Verdict
-      silent o left e = none (λ n h. not-nothing (sym (at_silence f g l addr expiry low high s o left e) ∙ h))
+      silent o left e = none (λ n h. not_nothing (sym (at_silence f g l addr expiry low high s o left e) ∙ h))
 
       welcomes : foreign t.server.set list public ≡ false → Admits t entries p addr low high → Welcome t datagram addr expiry p held out → Verdict
       welcomes o a (spends x) = line 15 (grants_15 f g l o addr expiry low high s a x)
@@ -299,7 +299,7 @@ module _ (t : State) (given : Bool) (p : PrivateConnectToken) (list entries publ
 
   verdict : Verdict
   verdict =
-      by-open t (all_of t entries public) 2 datagram (length out)
+      by_open t (all_of t entries public) 2 datagram (length out)
       (λ e. line 17 (grants_17 e))
       (λ o z. line 23 (grants_23 o z))
       (λ o e f. line 18 (grants_18 o e f))

@@ -37,7 +37,7 @@ use Rattle.opens.specs.Heard.{accepted, slot_says, slot_body, challenge_asked, p
 use Rattle.opens.specs.Responses.{send_key_of, counter_of, connecting, by_free, by_id, responded}
 use Rattle.opens.specs.Opens.{packet_opened, from_response, opened, open_answer_refusal, opens}
 use Rattle.refusals.specs.Answering.{OpenFit, both_of, ResponseSpent, own, global, OpenSays, opens_17, opens_23, opens_18, opens_8, opens_9, opens_15, OpenLeaves, nothing, closed_8, slot_9, pending_9, emptied_15}
-use Rattle.refusals.proofs.Answers.{same_refusal, not_asked, not-nothing, both-23, open-17, open-tables, open-0, open-18, by-open}
+use Rattle.refusals.proofs.Answers.{same_refusal, not_asked, not_nothing, both_23, open_17, open_tables, open_0, open_18, by_open}
 
 -- ---- a whole body is not refused
 
@@ -107,11 +107,11 @@ module _ (t : State) (granted : Bool) (held out d : List ℕ) where
 
   at_no : Fits → granted ≡ false → opens t granted held out d ≡ written (leaves t (closed t.server (Refused 8))) held out
   unfolding opens pick
-  at_no f g = simp (eq-eqb q 0 (open-0 t (both_of t) 1 (length d) (length out) f), g)
+  at_no f g = simp (eq-eqb q 0 (open_0 t (both_of t) 1 (length d) (length out) f), g)
 
   at_yes : Fits → granted ≡ true → (x : Stage) → t.server.ask.stage ≡ x → opens t granted held out d ≡ opened t held out d x
   unfolding opens pick
-  at_yes f g x e = simp (eq-eqb q 0 (open-0 t (both_of t) 1 (length d) (length out) f), g) (ap (opened t held out d) e)
+  at_yes f g x e = simp (eq-eqb q 0 (open_0 t (both_of t) 1 (length d) (length out) f), g) (ap (opened t held out d) e)
 
   -- ---- a packet
 
@@ -223,17 +223,17 @@ module _ (t : State) (granted : Bool) (held out d : List ℕ) where
     id_goes : (x : Found) → has_id ≡ x → Response
     unfolding by_id
     id_goes (At k) e =
-        goes (λ n h. not-nothing (sym (ap (λ (y : Prepared). y.turn.answer) (to_id (At k) e)) ∙ h))
+        goes (λ n h. not_nothing (sym (ap (λ (y : Prepared). y.turn.answer) (to_id (At k) e)) ∙ h))
     id_goes Nothing e = free_goes e free refl
 
   -- ---- a line of the table gives its number
 
   given : (n : ℕ) → OpenSays t granted out d n → Told n (opens t granted held out d)
-  given n (opens_17 e) = stops 17 (omega arith) (omega arith) (open-17 t (both_of t) 1 (length d) (length out) e)
+  given n (opens_17 e) = stops 17 (omega arith) (omega arith) (open_17 t (both_of t) 1 (length d) (length out) e)
   given n (opens_23 o z) =
       stops 23 (omega arith) (omega arith)
-      (open-tables t (both_of t) 1 (length d) (length out) o z ∙ both-23 t.server.set (length t.slots) (length t.pending) z)
-  given n (opens_18 o e f) = stops 18 (omega arith) (omega arith) (open-18 t (both_of t) 1 (length d) (length out) o e f)
+      (open_tables t (both_of t) 1 (length d) (length out) o z ∙ both_23 t.server.set (length t.slots) (length t.pending) z)
+  given n (opens_18 o e f) = stops 18 (omega arith) (omega arith) (open_18 t (both_of t) 1 (length d) (length out) o e f)
   given n (opens_8 f g) = subst (Told 8) (sym (at_no f g)) (record { answer = refl; left = closed_8; held_same = refl; out_same = refl })
   given n (opens_9 f g connected place kind sequence start s h) =
       subst (Told 9) (sym (at_packet f g connected place kind sequence start s))
@@ -267,7 +267,7 @@ module _ (t : State) (granted : Bool) (held out d : List ℕ) where
 
   verdict : Verdict
   verdict =
-      by-open t (both_of t) 1 (length d) (length out)
+      by_open t (both_of t) 1 (length d) (length out)
       (λ e. line 17 (opens_17 e))
       (λ o z. line 23 (opens_23 o z))
       (λ o e f. line 18 (opens_18 o e f))

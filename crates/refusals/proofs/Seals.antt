@@ -20,7 +20,7 @@ use Rattle.server.specs.Ready.{kind_of}
 use Rattle.turns.specs.Outcomes.{State, Outcome, leaves, refuses, closed}
 use Rattle.seals.specs.Seals.{unsealed, packet_asked, connects, sends, sealed, by_stage, seal_refusal, seals}
 use Rattle.refusals.specs.Answering.{Open, Fit, both_of, SealSays, seals_17, seals_23, seals_18, seals_24, SealLeaves, nothing, closed_24}
-use Rattle.refusals.proofs.Answers.{same_refusal, both-23, idle-17, tables-said, fit-0, no-fit-18, by_answer}
+use Rattle.refusals.proofs.Answers.{same_refusal, both_23, idle_17, tables_said, fit_0, no_fit_18, by_answer}
 
 module _ (t : State) (granted : Bool) (held : List ℕ) (out : ℕ) where
   -- refused by a number, which leaves what its line says
@@ -66,13 +66,13 @@ module _ (t : State) (granted : Bool) (held : List ℕ) (out : ℕ) where
 
   -- a line of the table gives its number
   given : (n : ℕ) → SealSays t granted out n → Told n (seals t granted held out)
-  given n (seals_17 e) = stops 17 (omega arith) (omega arith) (idle-17 t (both_of t) 3 t.server.ask.datagram out e)
+  given n (seals_17 e) = stops 17 (omega arith) (omega arith) (idle_17 t (both_of t) 3 t.server.ask.datagram out e)
   given n (seals_23 o z) =
       stops 23 (omega arith) (omega arith)
-      (tables-said t (both_of t) 3 t.server.ask.datagram out o z ∙ both-23 t.server.set (length t.slots) (length t.pending) z)
-  given n (seals_18 o e f) = stops 18 (omega arith) (omega arith) (no-fit-18 t (both_of t) 3 t.server.ask.datagram out o e f)
+      (tables_said t (both_of t) 3 t.server.ask.datagram out o z ∙ both_23 t.server.set (length t.slots) (length t.pending) z)
+  given n (seals_18 o e f) = stops 18 (omega arith) (omega arith) (no_fit_18 t (both_of t) 3 t.server.ask.datagram out o e f)
   given n (seals_24 o e f g x sequence end s d) =
-      subst (Told 24) (sym (at_no g x sequence end (fit-0 t (both_of t) 3 t.server.ask.datagram out o e f) s ∙ ap (leaves t) (no x d)))
+      subst (Told 24) (sym (at_no g x sequence end (fit_0 t (both_of t) 3 t.server.ask.datagram out o e f) s ∙ ap (leaves t) (no x d)))
       (record { answer = refl; left = closed_24 })
 
   -- every answer meets a line, or is not refused
@@ -92,7 +92,7 @@ module _ (t : State) (granted : Bool) (held : List ℕ) (out : ℕ) where
 
   module _ (o : Open t) (tabled : both_of t ≡ 0) (fit : Fit t 3 t.server.ask.datagram out) where
     pass : seal_refusal t out ≡ 0
-    pass = fit-0 t (both_of t) 3 t.server.ask.datagram out o tabled fit
+    pass = fit_0 t (both_of t) 3 t.server.ask.datagram out o tabled fit
 
     said : granted ≡ false → (x : Goal) (sequence end : ℕ) → t.server.ask.stage ≡ stage.Seal x sequence end
         → ((id : ℕ) (addr : Address) → x ≡ goal.Ending id addr → ⊥) → Verdict

@@ -31,7 +31,7 @@ use Rattle.turns.specs.Outcomes.{answered, refused}
 use Rattle.turns.specs.Packets.{keep_alive, Spoken, spoken}
 use Rattle.sending.specs.Packets.{counter_of, ready_refusal, sending_under, sending, limit_refusal, payload_refusal, by_client, generated, Served, served, ending_under, ending}
 use Rattle.sending.specs.Clients.{overdue, silent, keeping, idly, slot_updated, updated_at, ended_at, client_updated, disconnected}
-use Rattle.refusals.proofs.Answers.{same_refusal, not_asked, not-nothing, length-23}
+use Rattle.refusals.proofs.Answers.{same_refusal, not_asked, not_nothing, length_23}
 use Rattle.refusals.specs.Sending.{Ready, Client, Spent, Short, PayloadSays, payload_16, payload_23, payload_21, payload_22, payload_15, payload_14, UpdateSays, update_16, update_23, update_15, update_14_ends, update_14_keeps, DisconnectSays, disconnect_16, disconnect_23, disconnect_14, DisconnectSpent, UpdateSpent}
 
 -- ---- the ways of an answer: a line of the table, a slot that ends with 15, an ask, nothing. Each is told from the others by the answer.
@@ -47,7 +47,7 @@ module _ {Says : ℕ → Type 0} {Ends : ℕ → Address → Type 0} {r : Answer
   refused_by_lem n (line m x e) h = subst Says (same_refusal (sym e ∙ h)) x
   refused_by_lem n (ends c a x e) h = let z : ◌≡◌ {A = ℕ} 0 1 = cc in absurd (omega arith)
   refused_by_lem n (asks e) h = absurd (not_asked (sym e ∙ h))
-  refused_by_lem n (rests e) h = absurd (not-nothing (sym e ∙ h))
+  refused_by_lem n (rests e) h = absurd (not_nothing (sym e ∙ h))
 
   ended_by : (c : ℕ) (a : Address) → Way Says Ends r → r ≡ ClientDisconnected c a 0 15 → Ends c a
   ended_by c a (line m x e) h = let z : ◌≡◌ {A = ℕ} 0 1 = cc in absurd (omega arith)
@@ -72,7 +72,7 @@ module _ (s : NetcodeServer) (slots : List ℕ) where
   ready_16 f = open_refused s.ask lent f
 
   ready_23 : s.ask.stage ≡ Idle → (lent ≡ 0 → ⊥) → ready_refusal s (length slots) ≡ 23
-  ready_23 e f = idle_passes s.ask lent e ∙ length-23 (length slots) s.set.slots 1024 f
+  ready_23 e f = idle_passes s.ask lent e ∙ length_23 (length slots) s.set.slots 1024 f
 
   ready_0 : Ready s slots → ready_refusal s (length slots) ≡ 0
   ready_0 k = idle_passes s.ask lent k.idle ∙ k.tables

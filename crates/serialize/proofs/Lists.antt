@@ -332,9 +332,9 @@ lent_part l at e k vs ws h q n =
 false_true : false ≡ true → ⊥
 false_true h = let z : ◌≡◌ {A = ℕ} 0 1 = cc in omega arith
 
-not-true : (b : Bool) → (b ≡ true → ⊥) → b ≡ false
-not-true true h = absurd (h refl)
-not-true false h = refl
+not_true : (b : Bool) → (b ≡ true → ⊥) → b ≡ false
+not_true true h = absurd (h refl)
+not_true false h = refl
 
 pub both_true : (a b : Bool) → both a b ≡ true → (a ≡ true) × (b ≡ true)
 both_true true b h = (refl, h)
@@ -357,8 +357,8 @@ alike_true (x ∷ xs) (y ∷ ys) h =
 
 -- no to lists of different lengths
 pub alike_lengths : (xs ys : List ℕ) → (length xs ≡ length ys → ⊥) → alike xs ys ≡ false
-alike_lengths xs ys d = not-true (alike xs ys) (λ h. d (ap length (alike_true xs ys h)))
+alike_lengths xs ys d = not_true (alike xs ys) (λ h. d (ap length (alike_true xs ys h)))
 
 -- and no to lists that differ at one index
 pub alike_differ : (xs ys : List ℕ) (i : ℕ) → (get_or xs i 0 ≡ get_or ys i 0 → ⊥) → alike xs ys ≡ false
-alike_differ xs ys i d = not-true (alike xs ys) (λ h. d (ap (λ (t : List ℕ). get_or t i 0) (alike_true xs ys h)))
+alike_differ xs ys i d = not_true (alike xs ys) (λ h. d (ap (λ (t : List ℕ). get_or t i 0) (alike_true xs ys h)))

@@ -20,7 +20,7 @@ use Rattle.times.specs.Times.{second, zero, whole, added}
 use Rattle.times.proofs.Meaning.{added_clock, added_out}
 use Rattle.addresses.specs.Addresses as listed
 use Rattle.places.specs.Layout.{count, place_words, places_refusal}
-use Rattle.records.proofs.Invariants.{set-up-count, set-up-distinct}
+use Rattle.records.proofs.Invariants.{set_up_count, set_up_distinct}
 use Rattle.entries.specs.Layout as entry
 use Rattle.entries.proofs.Meaning.{emptied_marks, emptied_shaped}
 use Rattle.entries.proofs.Marks.{empty_never_matches}
@@ -100,14 +100,14 @@ module _ (c : ServerConfig) (slots pending entries public : List ℕ) where
       let w = emptied_shaped entries (entry.count entries) k.entered in
       let sum = added_clock zero c.current_time t e in
       record {
-        connected = set-up-count slots (count slots) s;
-        waiting = set-up-count pending (count pending) p;
+        connected = set_up_count slots (count slots) s;
+        waiting = set_up_count pending (count pending) p;
         remembered = emptied_marks entries (entry.count entries) k.entered;
         unmatched = λ mac i h.
             empty_never_matches (cleared entries (entry.count entries)) (entry.count entries) mac i
             (emptied_marks entries (entry.count entries) k.entered i h);
-        apart_slots = set-up-distinct slots (count slots) s;
-        apart_pending = set-up-distinct pending (count pending) p;
+        apart_slots = set_up_distinct slots (count slots) s;
+        apart_pending = set_up_distinct pending (count pending) p;
         slots_taken = cleared_taken slots 1024 k.slotted;
         pending_taken = cleared_taken pending 4096 k.waiting;
         entries_taken = (entries_exactly (found c slots pending entries public) (length (cleared entries (entry.count entries)))).1

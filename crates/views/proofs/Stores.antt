@@ -32,7 +32,7 @@ use Rattle.records.specs.declared.Connection.{Connection}
 use Rattle.records.specs.Records.{put_time, body_of, filled, emptied, moved}
 use Rattle.records.proofs.Kept.{placed_elsewhere, window_elsewhere, window_same}
 use Rattle.records.proofs.ReadBack.{emptied_rest, placed_used, placed_address, placed_id, placed_body, moved_body, moved_address, moved_id}
-use Rattle.records.proofs.Invariants.{emptied-mark}
+use Rattle.records.proofs.Invariants.{emptied_mark}
 use Rattle.views.specs.Views.{View, view, nobody, standing, gone, advanced, here, view_at}
 
 -- ---- a view is its five fields
@@ -242,7 +242,7 @@ module _ (t : List ℕ) (n i : ℕ) (shape : Shaped t n) (inside : i < n) where
       let u = emptied t i in
       let r : (g : Field) → Within g → (Marks ≡ g.column → ⊥) → field_of u n i g ≡ field_of t n i g = emptied_rest t n i shape inside in
       view_inside u n i inside
-      ∙ view_parts (empty_unused u i (emptied-mark t n i shape inside))
+      ∙ view_parts (empty_unused u i (emptied_mark t n i shape inside))
       (r columns.addr (omega arith) (λ e. let z : ◌≡◌ {A = ℕ} 0 1 = cc in omega arith))
       (r columns.receive_key (omega arith) (λ e. let z : ◌≡◌ {A = ℕ} 0 1 = cc in omega arith))
       (r columns.id (omega arith) (λ e. let z : ◌≡◌ {A = ℕ} 0 1 = cc in omega arith))
