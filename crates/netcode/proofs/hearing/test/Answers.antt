@@ -1,5 +1,4 @@
 -- What is sealed has passed each test.
-use borrow.Author.Tests.{not-false}
 use Rattle.netcode.proofs.Quickly.{other_tested, sealed_tested}
 use Rattle.netcode.proofs.hearing.test.Goals as goal
 
@@ -19,4 +18,4 @@ pub returns-else-past : goal.returns-else-past
 returns-else-past c =
     let a = c.args in
     sealed_tested a.slots.now a.n a.i a.kind a.datagram.now _ _ c.read_start.result c.read_start.ensures c.in-At.is c.apply_replay_protection.result c.apply_replay_protection.ensures
-    (not-false _ c.if-not-apply_replay_protection.false) c.window_refusal.result c.window_refusal.ensures c.if-window_refusal-ne0.false c.past.result c.past.ensures c.if-past.false
+    c.if-not-apply_replay_protection.false c.window_refusal.result c.window_refusal.ensures c.if-window_refusal-ne0.false c.past.result c.past.ensures c.if-past.false

@@ -2,6 +2,8 @@
 use Rattle.netcode.specs.Laid.{goal_in}
 use Rattle.serialize.specs.Choice.{pick}
 use borrow.Author.Tests.{ne_eqb}
+use native.Mathlib.Omega.{arith}
+use lib.ListN.{get_or}
 use Rattle.netcode.proofs.stages.goal_in.Goals as goal
 
 pub returns-in-4 : goal.returns-in-4
@@ -26,4 +28,6 @@ returns-in-8 c = simp c.in-8.is
 
 pub returns-in_default : goal.returns-in_default
 unfolding goal_in pick
-returns-in_default c = simp (c.addr_in-in_default.ensures, ne_eqb _ _ c.in_default.rest.0.0.0.0.1, ne_eqb _ _ c.in_default.rest.0.0.0.1, ne_eqb _ _ c.in_default.rest.0.0.1, ne_eqb _ _ c.in_default.rest.0.1, ne_eqb _ _ c.in_default.rest.1)
+returns-in_default c =
+    let v = get_or c.args.words.now 11 0 in
+    simp (c.addr_in-in_default.ensures, ne_eqb v 4 (omega arith), ne_eqb v 5 (omega arith), ne_eqb v 6 (omega arith), ne_eqb v 7 (omega arith), ne_eqb v 8 (omega arith))

@@ -2,6 +2,7 @@
 use Rattle.netcode.specs.Laid.{kind_in}
 use Rattle.serialize.specs.Choice.{pick}
 use borrow.Author.Tests.{ne_eqb}
+use native.Mathlib.Omega.{arith}
 use Rattle.netcode.proofs.stages.kind_in.Goals as goal
 
 pub returns-in-0 : goal.returns-in-0
@@ -30,4 +31,4 @@ returns-in-5 c = simp c.in-5.is
 
 pub returns-in_default : goal.returns-in_default
 unfolding kind_in pick
-returns-in_default c = simp (ne_eqb _ _ c.in_default.rest.0.0.0.0.0.1, ne_eqb _ _ c.in_default.rest.0.0.0.0.1, ne_eqb _ _ c.in_default.rest.0.0.0.1, ne_eqb _ _ c.in_default.rest.0.0.1, ne_eqb _ _ c.in_default.rest.0.1, ne_eqb _ _ c.in_default.rest.1)
+returns-in_default c = let v = c.args.word in simp (ne_eqb v 0 (omega arith), ne_eqb v 1 (omega arith), ne_eqb v 2 (omega arith), ne_eqb v 3 (omega arith), ne_eqb v 4 (omega arith), ne_eqb v 5 (omega arith))

@@ -2,6 +2,8 @@
 use Rattle.netcode.specs.Laid.{stage_in}
 use Rattle.serialize.specs.Choice.{pick}
 use borrow.Author.Tests.{ne_eqb}
+use native.Mathlib.Omega.{arith}
+use lib.ListN.{get_or}
 use Rattle.netcode.proofs.stages.stage_in.Goals as goal
 
 pub returns-in-0 : goal.returns-in-0
@@ -22,4 +24,6 @@ returns-in-3 c = simp c.in-3.is
 
 pub returns-in_default : goal.returns-in_default
 unfolding stage_in pick
-returns-in_default c = simp (c.goal_in.ensures, ne_eqb _ _ c.in_default.rest.0.0.0.1, ne_eqb _ _ c.in_default.rest.0.0.1, ne_eqb _ _ c.in_default.rest.0.1, ne_eqb _ _ c.in_default.rest.1)
+returns-in_default c =
+    let v = get_or c.args.words.now 11 0 in
+    simp (c.goal_in.ensures, ne_eqb v 0 (omega arith), ne_eqb v 1 (omega arith), ne_eqb v 2 (omega arith), ne_eqb v 3 (omega arith))
