@@ -1,4 +1,4 @@
-//! Links `libnetcode.a`, from where `rt staticlib` writes it or from OURS_LIB, and libsodium.
+//! Links `libnetcode.a`, from where `tools/archives` writes it or from OURS_LIB, and libsodium.
 
 use std::env;
 use std::path::PathBuf;

@@ -1,4 +1,4 @@
-//! Links our library, `libnetcode.a`, from where `rt staticlib` writes it or from OURS_LIB. Where that folder has a `libnetcode.so` of it
+//! Links our library, `libnetcode.a`, from where `tools/archives` writes it or from OURS_LIB. Where that folder has a `libnetcode.so` of it
 //! too, that is linked, so that another one can take its place without a new build.
 
 use std::env;

@@ -1,5 +1,5 @@
 //! Links our three static libraries, `libcalls.a`, `libtable_calls.a` and `libnetcode.a`, from where
-//! `rt staticlib` writes them or from OURS_LIB.
+//! `tools/archives` writes them or from OURS_LIB.
 
 use std::env;
 use std::path::PathBuf;

@@ -15,8 +15,7 @@ fn key_of(given: bool, bytes: [u8; 32]) -> PrivateKey
 }
 
 // The packet of a type and two numbers, with its bytes beside it, into out: 2 for a type over 6.
-#[unsafe(no_mangle)]
-pub extern "C" fn pump_encode(
+pub fn pump_encode(
     out: &mut [u8],
     kind: u8,
     a: u64,
@@ -54,8 +53,7 @@ pub extern "C" fn pump_encode(
 }
 
 // The host's answer to an ask to seal, of a packet or of a challenge token.
-#[unsafe(no_mangle)]
-pub extern "C" fn pump_answer_seal(out: &[u8], granted: bool, words: &mut [u64; 16])
+pub fn pump_answer_seal(out: &[u8], granted: bool, words: &mut [u64; 16])
     ensures { words.new ≡ answer_seal_call words.old out.now granted }
 {
     let sealing = desk::sealing_of(desk::kept_on(words));
@@ -73,8 +71,7 @@ fn guard_of(given: bool, words: &[u64; 257]) -> Guard
 }
 
 // A datagram, with the key and the window of its sender, if they are there.
-#[unsafe(no_mangle)]
-pub extern "C" fn pump_decode(
+pub fn pump_decode(
     datagram: &[u8],
     protocol_id: u64,
     keyed: bool,
@@ -101,8 +98,7 @@ pub extern "C" fn pump_decode(
 }
 
 // The host's answer to an ask to open.
-#[unsafe(no_mangle)]
-pub extern "C" fn pump_answer_open(
+pub fn pump_answer_open(
     datagram: &[u8],
     guarded: bool,
     window: &mut [u64; 257],
@@ -133,8 +129,7 @@ fn field_of(which: u8, src: &[u8], at: usize, end: usize) -> &[u8]
 }
 
 // That part's length; it is copied to the start of out, if it fits there.
-#[unsafe(no_mangle)]
-pub extern "C" fn pump_field(which: u8, src: &[u8], at: usize, end: usize, out: &mut [u8]) -> usize
+pub fn pump_field(which: u8, src: &[u8], at: usize, end: usize, out: &mut [u8]) -> usize
     ensures { written result out.new ≡ field_call (field_of which src.now at end) out.old }
 {
     let field = field_of(which, src, at, end);

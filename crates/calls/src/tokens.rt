@@ -6,8 +6,7 @@ ghost use Rattle.calls.specs.Tokens.{generate_call, decode_challenge_call, answe
 use crate::desk;
 
 // A token into out from index at, and the ask to seal it.
-#[unsafe(no_mangle)]
-pub extern "C" fn pump_generate_challenge(
+pub fn pump_generate_challenge(
     out: &mut [u8],
     at: usize,
     client_id: u64,
@@ -33,8 +32,7 @@ pub extern "C" fn pump_generate_challenge(
 }
 
 // The ask to open the token at index at.
-#[unsafe(no_mangle)]
-pub extern "C" fn pump_decode_challenge(
+pub fn pump_decode_challenge(
     token_data: &[u8],
     at: usize,
     token_sequence: u64,
@@ -51,8 +49,7 @@ pub extern "C" fn pump_decode_challenge(
 }
 
 // The host's answer to an ask to open a token: its client stands on the desk, its user data in what is lent for it.
-#[unsafe(no_mangle)]
-pub extern "C" fn pump_answer_challenge(
+pub fn pump_answer_challenge(
     token_data: &[u8],
     granted: bool,
     words: &mut [u64; 16],

@@ -8,8 +8,7 @@ ghost use Rattle.netcode.specs.Calls.{itself, replied, replied_as};
 use crate::record;
 
 // The client limit, then the clock.
-#[unsafe(no_mangle)]
-pub extern "C" fn netcode_server_itself(words: &[u64; 34], out: &mut [u64; 3])
+pub fn netcode_server_itself(words: &[u64; 34], out: &mut [u64; 3])
     ensures { out.new ≡ itself words.now }
 {
     let server = record::read(words);
@@ -18,16 +17,14 @@ pub extern "C" fn netcode_server_itself(words: &[u64; 34], out: &mut [u64; 3])
     *out = [limit as u64, clock.secs, clock.nanos];
 }
 
-#[unsafe(no_mangle)]
-pub extern "C" fn netcode_connected_clients(words: &[u64; 34], slots: &[u64], reply: &mut [u64; 5])
+pub fn netcode_connected_clients(words: &[u64; 34], slots: &[u64], reply: &mut [u64; 5])
     ensures { reply.new ≡ words_of (connected_clients (record_in words.now) slots.now) }
 {
     let told = queries::connected_clients(record::read(words), slots);
     *reply = told.words();
 }
 
-#[unsafe(no_mangle)]
-pub extern "C" fn netcode_is_client_connected(
+pub fn netcode_is_client_connected(
     words: &[u64; 34],
     slots: &[u64],
     client_id: u64,
@@ -39,21 +36,14 @@ pub extern "C" fn netcode_is_client_connected(
     *reply = told.words();
 }
 
-#[unsafe(no_mangle)]
-pub extern "C" fn netcode_client_addr(
-    words: &[u64; 34],
-    slots: &[u64],
-    client_id: u64,
-    reply: &mut [u64; 5],
-)
+pub fn netcode_client_addr(words: &[u64; 34], slots: &[u64], client_id: u64, reply: &mut [u64; 5])
     ensures { reply.new ≡ words_of (client_address (record_in words.now) slots.now client_id) }
 {
     let told = queries::client_addr(record::read(words), slots, client_id);
     *reply = told.words();
 }
 
-#[unsafe(no_mangle)]
-pub extern "C" fn netcode_time_since_last_received_packet(
+pub fn netcode_time_since_last_received_packet(
     words: &[u64; 34],
     slots: &[u64],
     client_id: u64,
@@ -65,8 +55,7 @@ pub extern "C" fn netcode_time_since_last_received_packet(
     *reply = told.words();
 }
 
-#[unsafe(no_mangle)]
-pub extern "C" fn netcode_user_data(
+pub fn netcode_user_data(
     words: &[u64; 34],
     slots: &[u64],
     client_id: u64,
@@ -79,21 +68,14 @@ pub extern "C" fn netcode_user_data(
     *reply = told.words();
 }
 
-#[unsafe(no_mangle)]
-pub extern "C" fn netcode_clients_id(
-    words: &[u64; 34],
-    slots: &[u64],
-    list: &mut [u64],
-    reply: &mut [u64; 5],
-)
+pub fn netcode_clients_id(words: &[u64; 34], slots: &[u64], list: &mut [u64], reply: &mut [u64; 5])
     ensures { replied reply.new list.new ≡ replied_as (listed_into (record_in words.now) slots.now true list.old) }
 {
     let told = queries::clients_id(record::read(words), slots, list);
     *reply = told.words();
 }
 
-#[unsafe(no_mangle)]
-pub extern "C" fn netcode_clients_slot(
+pub fn netcode_clients_slot(
     words: &[u64; 34],
     slots: &[u64],
     list: &mut [u64],
@@ -105,8 +87,7 @@ pub extern "C" fn netcode_clients_slot(
     *reply = told.words();
 }
 
-#[unsafe(no_mangle)]
-pub extern "C" fn netcode_addresses(
+pub fn netcode_addresses(
     words: &[u64; 34],
     public_addresses: &[u64],
     list: &mut [u64],

@@ -31,8 +31,7 @@ fn generate_payload_packet(
     told::lay_turn(turn, words, answer, ask);
 }
 
-#[unsafe(no_mangle)]
-pub extern "C" fn netcode_generate_payload_packet(
+pub fn netcode_generate_payload_packet(
     words: &mut [u64; 34],
     client_id: u64,
     payload: &[u8],
@@ -66,8 +65,7 @@ fn update_client(
     told::lay_turn(turn, words, answer, ask);
 }
 
-#[unsafe(no_mangle)]
-pub extern "C" fn netcode_update_client(
+pub fn netcode_update_client(
     words: &mut [u64; 34],
     client_id: u64,
     slots: &mut [u64],
@@ -84,8 +82,7 @@ pub extern "C" fn netcode_update_client(
     update_client(words, client_id, slots, out, answer, ask)
 }
 
-#[unsafe(no_mangle)]
-pub extern "C" fn netcode_disconnect(
+pub fn netcode_disconnect(
     words: &mut [u64; 34],
     client_id: u64,
     slots: &mut [u64],

@@ -32,8 +32,7 @@ fn process_any(
 }
 
 // A sealed packet of a slot goes the short way.
-#[unsafe(no_mangle)]
-pub extern "C" fn netcode_process_packet(
+pub fn netcode_process_packet(
     words: &mut [u64; 34],
     kind: u8,
     port: u16,
@@ -89,8 +88,7 @@ fn answer_any(
 }
 
 // A payload of a slot goes the short way.
-#[unsafe(no_mangle)]
-pub extern "C" fn netcode_answer_open(
+pub fn netcode_answer_open(
     words: &mut [u64; 34],
     granted: u8,
     slots: &mut [u64],
@@ -113,8 +111,7 @@ pub extern "C" fn netcode_answer_open(
     );
 }
 
-#[unsafe(no_mangle)]
-pub extern "C" fn netcode_answer_token(
+pub fn netcode_answer_token(
     words: &mut [u64; 34],
     granted: u8,
     client_id: u64,
@@ -175,8 +172,7 @@ fn answer_seal(
     told::lay_turn(turn, words, answer, ask);
 }
 
-#[unsafe(no_mangle)]
-pub extern "C" fn netcode_answer_seal(
+pub fn netcode_answer_seal(
     words: &mut [u64; 34],
     granted: u8,
     slots: &mut [u64],

@@ -9,8 +9,7 @@ use places::{NETCODE_MAX_CLIENTS, NETCODE_MAX_PENDING_CLIENTS, PLACE_WORDS};
 // More public addresses than this no list has.
 const MAX_ADDRESSES: usize = 4294967295;
 
-#[unsafe(no_mangle)]
-pub extern "C" fn netcode_slots_words(slots: usize) -> usize
+pub fn netcode_slots_words(slots: usize) -> usize
     ensures { result ≡ size_of slots 1024 310 }
 {
     if slots > NETCODE_MAX_CLIENTS {
@@ -19,8 +18,7 @@ pub extern "C" fn netcode_slots_words(slots: usize) -> usize
     slots * PLACE_WORDS
 }
 
-#[unsafe(no_mangle)]
-pub extern "C" fn netcode_pending_words(pending: usize) -> usize
+pub fn netcode_pending_words(pending: usize) -> usize
     ensures { result ≡ size_of pending 4096 310 }
 {
     if pending > NETCODE_MAX_PENDING_CLIENTS {
@@ -29,8 +27,7 @@ pub extern "C" fn netcode_pending_words(pending: usize) -> usize
     pending * PLACE_WORDS
 }
 
-#[unsafe(no_mangle)]
-pub extern "C" fn netcode_entries_bytes(entries: usize) -> usize
+pub fn netcode_entries_bytes(entries: usize) -> usize
     ensures { result ≡ size_of entries 2048 48 }
 {
     if entries > MAX_ENTRIES {
@@ -39,8 +36,7 @@ pub extern "C" fn netcode_entries_bytes(entries: usize) -> usize
     entries * ENTRY_BYTES
 }
 
-#[unsafe(no_mangle)]
-pub extern "C" fn netcode_addresses_words(addresses: usize) -> usize
+pub fn netcode_addresses_words(addresses: usize) -> usize
     ensures { result ≡ size_of addresses 4294967295 3 }
 {
     if addresses > MAX_ADDRESSES {

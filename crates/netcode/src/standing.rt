@@ -12,8 +12,7 @@ use times::Time;
 use upkeep::ServerConfig;
 
 // 0 and the record, or a refusal and a record of no places.
-#[unsafe(no_mangle)]
-pub extern "C" fn netcode_set_up(
+pub fn netcode_set_up(
     words: &mut [u64; 34],
     secs: u64,
     nanos: u64,
@@ -43,8 +42,7 @@ pub extern "C" fn netcode_set_up(
     begun.refusal
 }
 
-#[unsafe(no_mangle)]
-pub extern "C" fn netcode_update(
+pub fn netcode_update(
     words: &mut [u64; 34],
     pending: &mut [u64],
     secs: u64,
@@ -57,12 +55,7 @@ pub extern "C" fn netcode_update(
     told::lay_step(step, words, answer);
 }
 
-#[unsafe(no_mangle)]
-pub extern "C" fn netcode_set_max_clients(
-    words: &mut [u64; 34],
-    max_clients: usize,
-    answer: &mut [u64; 14],
-)
+pub fn netcode_set_max_clients(words: &mut [u64; 34], max_clients: usize, answer: &mut [u64; 14])
     ensures { stepped words.new answer.new [] ≡ stepped_as words.old answer.old (limited (record_in words.old) max_clients) [] }
 {
     let step = upkeep::set_max_clients(record::read(words), max_clients);

@@ -7,8 +7,7 @@ use entries::ConnectTokenEntry;
 use times::Time;
 
 // 1 where the token may be used from the address, 0 where its last entry has another; 23, 19.
-#[unsafe(no_mangle)]
-pub extern "C" fn pump_find_or_add_entry(
+pub fn pump_find_or_add_entry(
     table: &mut [u8],
     secs: u64,
     nanos: u64,

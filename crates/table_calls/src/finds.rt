@@ -19,8 +19,7 @@ fn lay(found: Found, place: &mut [u64; 1]) -> u8
     }
 }
 
-#[unsafe(no_mangle)]
-pub extern "C" fn pump_find_by_address(
+pub fn pump_find_by_address(
     t: &[u64],
     kind: u8,
     bytes: &[u8; 16],
@@ -42,8 +41,7 @@ pub extern "C" fn pump_find_by_address(
     )
 }
 
-#[unsafe(no_mangle)]
-pub extern "C" fn pump_find_by_id(t: &[u64], client_id: u64, place: &mut [u64; 1]) -> u8
+pub fn pump_find_by_id(t: &[u64], client_id: u64, place: &mut [u64; 1]) -> u8
     ensures { told result place.new ≡ find_id_call t.now client_id place.old }
 {
     if places::places_refusal(t, NETCODE_MAX_PENDING_CLIENTS) != 0 {
@@ -55,8 +53,7 @@ pub extern "C" fn pump_find_by_id(t: &[u64], client_id: u64, place: &mut [u64; 1
     )
 }
 
-#[unsafe(no_mangle)]
-pub extern "C" fn pump_find_free(t: &[u64], place: &mut [u64; 1]) -> u8
+pub fn pump_find_free(t: &[u64], place: &mut [u64; 1]) -> u8
     ensures { told result place.new ≡ find_free_call t.now place.old }
 {
     if places::places_refusal(t, NETCODE_MAX_PENDING_CLIENTS) != 0 {
@@ -66,8 +63,7 @@ pub extern "C" fn pump_find_free(t: &[u64], place: &mut [u64; 1]) -> u8
 }
 
 // 1 and how many places are used, in `count`.
-#[unsafe(no_mangle)]
-pub extern "C" fn pump_count_used(t: &[u64], count: &mut [u64; 1]) -> u8
+pub fn pump_count_used(t: &[u64], count: &mut [u64; 1]) -> u8
     ensures { told result count.new ≡ count_call t.now count.old }
 {
     if places::places_refusal(t, NETCODE_MAX_PENDING_CLIENTS) != 0 {
@@ -78,8 +74,7 @@ pub extern "C" fn pump_count_used(t: &[u64], count: &mut [u64; 1]) -> u8
 }
 
 // 0, and the three words of an address in out; 19 where it is malformed.
-#[unsafe(no_mangle)]
-pub extern "C" fn pump_address(kind: u8, bytes: &[u8; 16], port: u16, out: &mut [u64; 3]) -> u8
+pub fn pump_address(kind: u8, bytes: &[u8; 16], port: u16, out: &mut [u64; 3]) -> u8
     ensures { told result out.new ≡ address_call kind bytes.now port out.old }
 {
     let addr = Address::new(kind, bytes, port);
@@ -91,8 +86,7 @@ pub extern "C" fn pump_address(kind: u8, bytes: &[u8; 16], port: u16, out: &mut 
 }
 
 // 1 where an address of the list is one of ours, 0 where none is, 19 where one of either list is malformed.
-#[unsafe(no_mangle)]
-pub extern "C" fn pump_any_ours(list: &[u64], ours: &[u64]) -> u8
+pub fn pump_any_ours(list: &[u64], ours: &[u64]) -> u8
     ensures { result ≡ ours_call list.now ours.now }
 {
     if addresses::list_refusal(ours) != 0 {

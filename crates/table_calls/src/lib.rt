@@ -5,3 +5,12 @@
 mod entries_call;
 mod finds;
 mod moments;
+
+pub use entries_call::pump_find_or_add_entry;
+pub use finds::{
+    pump_address, pump_any_ours, pump_count_used, pump_find_by_address, pump_find_by_id,
+    pump_find_free,
+};
+pub use moments::{
+    pump_time_add, pump_time_before, pump_time_due, pump_time_past, pump_time_since,
+};

@@ -6,8 +6,7 @@ ghost use Rattle.table_calls.specs.Calls.{told, time_add, since_words};
 use times::{Added, Time};
 
 // 0, and the clock moved on in out; 20 where it would pass its range.
-#[unsafe(no_mangle)]
-pub extern "C" fn pump_time_add(
+pub fn pump_time_add(
     secs: u64,
     nanos: u64,
     step_secs: u64,
@@ -31,8 +30,7 @@ pub extern "C" fn pump_time_add(
 }
 
 // a < b
-#[unsafe(no_mangle)]
-pub extern "C" fn pump_time_before(a_secs: u64, a_nanos: u64, b_secs: u64, b_nanos: u64) -> bool
+pub fn pump_time_before(a_secs: u64, a_nanos: u64, b_secs: u64, b_nanos: u64) -> bool
     ensures { result ≡ before (time a_secs a_nanos) (time b_secs b_nanos) }
 {
     let a = Time {
@@ -47,14 +45,7 @@ pub extern "C" fn pump_time_before(a_secs: u64, a_nanos: u64, b_secs: u64, b_nan
 }
 
 // a + timeout < now
-#[unsafe(no_mangle)]
-pub extern "C" fn pump_time_past(
-    secs: u64,
-    nanos: u64,
-    timeout: u32,
-    now_secs: u64,
-    now_nanos: u64,
-) -> bool
+pub fn pump_time_past(secs: u64, nanos: u64, timeout: u32, now_secs: u64, now_nanos: u64) -> bool
     ensures { result ≡ past (time secs nanos) timeout (time now_secs now_nanos) }
 {
     let a = Time { secs, nanos };
@@ -66,8 +57,7 @@ pub extern "C" fn pump_time_past(
 }
 
 // a + 250 ms <= now
-#[unsafe(no_mangle)]
-pub extern "C" fn pump_time_due(secs: u64, nanos: u64, now_secs: u64, now_nanos: u64) -> bool
+pub fn pump_time_due(secs: u64, nanos: u64, now_secs: u64, now_nanos: u64) -> bool
     ensures { result ≡ due (time secs nanos) (time now_secs now_nanos) }
 {
     let a = Time { secs, nanos };
@@ -79,14 +69,7 @@ pub extern "C" fn pump_time_due(secs: u64, nanos: u64, now_secs: u64, now_nanos:
 }
 
 // How long ago a time was, in out.
-#[unsafe(no_mangle)]
-pub extern "C" fn pump_time_since(
-    now_secs: u64,
-    now_nanos: u64,
-    secs: u64,
-    nanos: u64,
-    out: &mut [u64; 2],
-)
+pub fn pump_time_since(now_secs: u64, now_nanos: u64, secs: u64, nanos: u64, out: &mut [u64; 2])
     ensures { out.new ≡ since_words (time now_secs now_nanos) (time secs nanos) }
 {
     let b = Time {

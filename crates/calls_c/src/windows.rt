@@ -1,0 +1,47 @@
+// The window, lent as its 257 words: the highest, then the places. By value, as document 01 has it, and in place.
+ghost use Rattle.std.specs.Prelude.{◌≡◌};
+ghost use Rattle.replay_protection.specs.Replay.{fresh, refuses, refusal, arrive};
+ghost use Rattle.replay_protection.specs.Stored.{window_at, put_window};
+ghost use Rattle.replay_protection.specs.Ours.{width};
+
+#[unsafe(no_mangle)]
+pub extern "C" fn pump_new_window(window: &mut [u64; 257])
+    ensures { window.new ≡ put_window window.old 0 (fresh width) }
+{
+    calls::pump_new_window(window)
+}
+
+#[unsafe(no_mangle)]
+pub extern "C" fn pump_already_received(window: &[u64; 257], sequence: u64) -> bool
+    ensures { result ≡ refuses width (window_at width window.now 0) sequence }
+{
+    calls::pump_already_received(window, sequence)
+}
+
+#[unsafe(no_mangle)]
+pub extern "C" fn pump_refusal(window: &[u64; 257], sequence: u64) -> u8
+    ensures { result ≡ refusal width (window_at width window.now 0) sequence }
+{
+    calls::pump_refusal(window, sequence)
+}
+
+#[unsafe(no_mangle)]
+pub extern "C" fn pump_advance_sequence(window: &mut [u64; 257], sequence: u64)
+    ensures { window.new ≡ put_window window.old 0 (arrive width (window_at width window.old 0) sequence) }
+{
+    calls::pump_advance_sequence(window, sequence)
+}
+
+#[unsafe(no_mangle)]
+pub extern "C" fn pump_refusal_at(window: &[u64; 257], sequence: u64) -> u8
+    ensures { result ≡ refusal width (window_at width window.now 0) sequence }
+{
+    calls::pump_refusal_at(window, sequence)
+}
+
+#[unsafe(no_mangle)]
+pub extern "C" fn pump_advance_at(window: &mut [u64; 257], sequence: u64)
+    ensures { window.new ≡ put_window window.old 0 (arrive width (window_at width window.old 0) sequence) }
+{
+    calls::pump_advance_at(window, sequence)
+}

@@ -1,0 +1,66 @@
+// Set-up, the clock and the limit.
+ghost use Rattle.std.specs.Prelude.{◌≡◌, []};
+ghost use Rattle.times.specs.Times.{time};
+ghost use Rattle.upkeep.specs.SetUps.{set_up};
+ghost use Rattle.upkeep.specs.Clocks.{updated};
+ghost use Rattle.upkeep.specs.Limits.{limited};
+ghost use Rattle.netcode.specs.Laid.{record_in};
+ghost use Rattle.netcode.specs.Calls.{yes?, config_of, started, started_as, stepped, stepped_as, updated_as};
+
+// 0 and the record, or a refusal and a record of no places.
+#[unsafe(no_mangle)]
+pub extern "C" fn netcode_set_up(
+    words: &mut [u64; 34],
+    secs: u64,
+    nanos: u64,
+    max_clients: usize,
+    protocol_id: u64,
+    secure: u8,
+    connect_key: &[u8; 32],
+    challenge_key: &[u8; 32],
+    slots: &mut [u64],
+    pending: &mut [u64],
+    entries: &mut [u8],
+    public_addresses: &[u64],
+) -> u8
+    ensures { started result words.new slots.new pending.new entries.new ≡ started_as words.old (set_up (config_of (time secs nanos) max_clients protocol_id (yes? secure) connect_key.now challenge_key.now) slots.old pending.old entries.old public_addresses.now) }
+{
+    netcode::netcode_set_up(
+        words,
+        secs,
+        nanos,
+        max_clients,
+        protocol_id,
+        secure,
+        connect_key,
+        challenge_key,
+        slots,
+        pending,
+        entries,
+        public_addresses,
+    )
+}
+
+#[unsafe(no_mangle)]
+pub extern "C" fn netcode_update(
+    words: &mut [u64; 34],
+    pending: &mut [u64],
+    secs: u64,
+    nanos: u64,
+    answer: &mut [u64; 14],
+)
+    ensures { stepped words.new answer.new pending.new ≡ updated_as words.old answer.old (updated (record_in words.old) pending.old (time secs nanos)) }
+{
+    netcode::netcode_update(words, pending, secs, nanos, answer)
+}
+
+#[unsafe(no_mangle)]
+pub extern "C" fn netcode_set_max_clients(
+    words: &mut [u64; 34],
+    max_clients: usize,
+    answer: &mut [u64; 14],
+)
+    ensures { stepped words.new answer.new [] ≡ stepped_as words.old answer.old (limited (record_in words.old) max_clients) [] }
+{
+    netcode::netcode_set_max_clients(words, max_clients, answer)
+}
