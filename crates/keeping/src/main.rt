@@ -3,10 +3,11 @@
 #![tactic(auto)]
 
 use addresses::Address;
-use libc::STDOUT_FILENO;
 use records::Connection;
 use replay_protection::ReplayProtection;
 use server::NetcodeServer;
+use std::io;
+use std::io::{Print, Stdout};
 use times::Time;
 use turns::Turn;
 use upkeep::ServerConfig;
@@ -36,63 +37,69 @@ struct Said {
 
 // ---- a line for each answer
 
-fn say(text: &[u8]) {
-    io::write_all(STDOUT_FILENO, text);
+fn say(to: Stdout, text: &[u8]) -> io::Result<()> {
+    to.write_all(text)
 }
 
 // The lines that hold so far; no count here is near the end of its range.
 fn plus(a: u32, b: u32) -> u32 {
-    std::num::wrapping_add_u32(a, b)
+    a.wrapping_add(b)
 }
 
 // An answer of its case, and one of its words: of a refusal (case 0) its number (word 1), of nothing (1) a 0, of a packet to send (3) its
 // length (8), of a client that is gone (6) its id (2), the packet's length (8) or why there is none (1).
-fn told(name: &[u8], said: Said, case: u64, i: usize, want: u64) -> u32 {
+fn told(to: Stdout, name: &[u8], said: Said, case: u64, i: usize, want: u64) -> io::Result<u32> {
     let words = said.words;
     if words[0] != case {
-        return print::number(name, words[0], case);
+        return print::number(to, name, words[0], case);
     }
     let value = if i < 9 { words[i] } else { 0 };
-    print::number(name, value, want)
+    print::number(to, name, value, want)
 }
 
-fn nothing(name: &[u8], said: Said) -> u32 {
-    told(name, said, 1, 1, 0)
+fn nothing(to: Stdout, name: &[u8], said: Said) -> io::Result<u32> {
+    told(to, name, said, 1, 1, 0)
 }
 
-fn refused(name: &[u8], said: Said, number: u64) -> u32 {
-    told(name, said, 0, 1, number)
+fn refused(to: Stdout, name: &[u8], said: Said, number: u64) -> io::Result<u32> {
+    told(to, name, said, 0, 1, number)
 }
 
 // An ask, case 2: the part that is to be sealed.
-fn asks(name: &[u8], said: Said, start: u64, end: u64) -> u32 {
+fn asks(to: Stdout, name: &[u8], said: Said, start: u64, end: u64) -> io::Result<u32> {
     let words = said.words;
     if words[0] != 2 {
-        return print::number(name, words[0], 2);
+        return print::number(to, name, words[0], 2);
     }
-    plus(
-        print::number(name, said.start, start),
-        print::number(b"                            up to byte", said.end, end),
-    )
+    Ok(plus(
+        print::number(to, name, said.start, start)?,
+        print::number(to, b"                            up to byte", said.end, end)?,
+    ))
 }
 
-fn connected(world: World, want: u64) -> u32 {
+fn connected(to: Stdout, world: World, want: u64) -> io::Result<u32> {
     let slots = world.slots;
-    print::number(b"   connected:", places::count_used(&slots, 3) as u64, want)
+    print::number(
+        to,
+        b"   connected:",
+        places::count_used(&slots, 3) as u64,
+        want,
+    )
 }
 
 // The counter and the sent time of slot 0; its seconds are 10.
-fn stands(world: World, sequence: u64, nanos: u64) -> u32 {
+fn stands(to: Stdout, world: World, sequence: u64, nanos: u64) -> io::Result<u32> {
     let slots = world.slots;
     let sent = records::sent_time(&slots, 3, 0);
-    plus(
+    Ok(plus(
         print::number(
+            to,
             b"   the slot's next sequence:",
             records::sequence(&slots, 3, 0),
             sequence,
-        ),
-        print::number(b"   last sent to at 10 s and ns:", sent.nanos, nanos),
-    )
+        )?,
+        print::number(to, b"   last sent to at 10 s and ns:", sent.nanos, nanos)?,
+    ))
 }
 
 // ---- the pumps
@@ -260,154 +267,181 @@ fn seal(world: World, granted: bool) -> Said {
 // ---- the scenes
 
 // Sent away by name.
-fn sent_away(world: World) -> u32 {
-    say(b"4. Client 44 is sent away.\n");
+fn sent_away(to: Stdout, world: World) -> io::Result<u32> {
+    say(to, b"4. Client 44 is sent away.\n")?;
     let asked = disconnect(world, 44);
-    let a = asks(b"   a disconnect is to be sealed from byte", asked, 1, 17);
-    let b = connected(asked.world, 1);
+    let a = asks(
+        to,
+        b"   a disconnect is to be sealed from byte",
+        asked,
+        1,
+        17,
+    )?;
+    let b = connected(to, asked.world, 1)?;
     let gone = seal(asked.world, true);
-    let c = told(b"   yes: gone is client", gone, 6, 2, 44);
-    let d = nothing(b"   once more, nothing:", disconnect(gone.world, 44));
-    plus(plus(a, b), plus(c, d))
+    let c = told(to, b"   yes: gone is client", gone, 6, 2, 44)?;
+    let d = nothing(to, b"   once more, nothing:", disconnect(gone.world, 44))?;
+    Ok(plus(plus(a, b), plus(c, d)))
 }
 
 // A timeout of 0 or below is none.
-fn never(world: World) -> u32 {
+fn never(to: Stdout, world: World) -> io::Result<u32> {
     let year = later(world, 31_536_000, 0);
     let a = asks(
+        to,
         b"   a year on, timeout -1: a keep-alive from byte",
         update(year, 43),
         1,
         25,
-    );
+    )?;
     let b = asks(
+        to,
         b"   a year on, timeout 0: a keep-alive from byte",
         update(year, 44),
         1,
         25,
-    );
-    plus(plus(a, b), sent_away(year))
+    )?;
+    Ok(plus(plus(a, b), sent_away(to, year)?))
 }
 
 // Overdue: the slot is empty before the packet is sealed, and stays so.
-fn overdue(world: World) -> u32 {
+fn overdue(to: Stdout, world: World) -> io::Result<u32> {
     let short = update_in_17(world, 42);
     let a = refused(
+        to,
         b"   one nanosecond later, output of 17 bytes, as",
         short,
         14,
-    );
-    let b = connected(short.world, 3);
+    )?;
+    let b = connected(to, short.world, 3)?;
     let asked = update(world, 42);
-    let c = asks(b"   with room: a disconnect from byte", asked, 2, 18);
-    let d = connected(asked.world, 2);
+    let c = asks(to, b"   with room: a disconnect from byte", asked, 2, 18)?;
+    let d = connected(to, asked.world, 2)?;
     let no = seal(asked.world, false);
-    let e = told(b"   no: gone without a packet, as", no, 6, 1, 24);
+    let e = told(to, b"   no: gone without a packet, as", no, 6, 1, 24)?;
     let gone = seal(asked.world, true);
-    let f = told(b"   yes: gone, bytes to send", gone, 6, 8, 18);
-    let g = nothing(b"   client 42 again, nothing:", update(gone.world, 42));
+    let f = told(to, b"   yes: gone, bytes to send", gone, 6, 8, 18)?;
+    let g = nothing(to, b"   client 42 again, nothing:", update(gone.world, 42))?;
     let all = plus(plus(plus(a, b), plus(c, d)), plus(plus(e, f), g));
-    plus(all, never(gone.world))
+    Ok(plus(all, never(to, gone.world)?))
 }
 
 // With a spent counter a payload and a keep-alive are refused, and an end has no packet.
-fn at_the_end(world: World) -> u32 {
+fn at_the_end(to: Stdout, world: World) -> io::Result<u32> {
     let text = [7u8; 4];
     let late = spent(world);
     let a = refused(
+        to,
         b"   counter 2^64-1: a payload, as",
         write_to(late, 42, &text),
         15,
-    );
+    )?;
     let kept = update(late, 42);
-    let b = refused(b"   a keep-alive, as", kept, 15);
-    let c = connected(kept.world, 3);
+    let b = refused(to, b"   a keep-alive, as", kept, 15)?;
+    let c = connected(to, kept.world, 3)?;
     let gone = update_in_17(later(late, 0, 1), 42);
     let d = told(
+        to,
         b"   overdue, output of 17 bytes: gone without a packet, as",
         gone,
         6,
         1,
         15,
-    );
-    let e = connected(gone.world, 2);
-    plus(plus(plus(a, b), plus(c, d)), e)
+    )?;
+    let e = connected(to, gone.world, 2)?;
+    Ok(plus(plus(plus(a, b), plus(c, d)), e))
 }
 
 // At 25 s a pump heard of at 10 s, with a timeout of 15 s, is still there.
-fn stays(world: World) -> u32 {
-    say(b"3. Nothing came since 10 s. Timeout 15 s; now 25 s.\n");
+fn stays(to: Stdout, world: World) -> io::Result<u32> {
+    say(to, b"3. Nothing came since 10 s. Timeout 15 s; now 25 s.\n")?;
     let limit = later(world, 14, 750_000_000);
     let asked = update(limit, 42);
-    let a = asks(b"   a keep-alive from byte", asked, 2, 26);
-    let b = connected(asked.world, 3);
+    let a = asks(to, b"   a keep-alive from byte", asked, 2, 26)?;
+    let b = connected(to, asked.world, 3)?;
     let sent = seal(asked.world, true);
-    let c = told(b"   yes: bytes to send", sent, 3, 8, 26);
-    let d = at_the_end(limit);
-    plus(
+    let c = told(to, b"   yes: bytes to send", sent, 3, 8, 26)?;
+    let d = at_the_end(to, limit)?;
+    Ok(plus(
         plus(plus(a, b), plus(c, d)),
-        overdue(later(sent.world, 0, 1)),
-    )
+        overdue(to, later(sent.world, 0, 1))?,
+    ))
 }
 
 // A payload, and what is refused.
-fn writes(world: World) -> u32 {
-    say(b"2. A payload for client 42.\n");
+fn writes(to: Stdout, world: World) -> io::Result<u32> {
+    say(to, b"2. A payload for client 42.\n")?;
     let text = [7u8; 4];
     let long = [7u8; 1301];
-    let a = refused(b"   1,301 bytes, as", write_to(world, 42, &long), 21);
-    let b = refused(b"   for client 7, as", write_to(world, 7, &text), 22);
-    let c = refused(b"   into 17 bytes, as", write_in_17(world, 42, &text), 14);
+    let a = refused(to, b"   1,301 bytes, as", write_to(world, 42, &long), 21)?;
+    let b = refused(to, b"   for client 7, as", write_to(world, 7, &text), 22)?;
+    let c = refused(
+        to,
+        b"   into 17 bytes, as",
+        write_in_17(world, 42, &text),
+        14,
+    )?;
     let asked = write_to(world, 42, &text);
-    let d = asks(b"   four bytes: to be sealed from byte", asked, 2, 22);
+    let d = asks(to, b"   four bytes: to be sealed from byte", asked, 2, 22)?;
     let e = print::bytes(
+        to,
         b"   prefix, sequence, text:",
         &asked.head,
         &[0x15, 1, 7, 7, 7, 7, 0, 0, 0],
-    );
+    )?;
     let sent = seal(asked.world, true);
-    let f = told(b"   yes: bytes to send", sent, 3, 8, 22);
-    let g = stands(sent.world, 2, 250_000_000);
+    let f = told(to, b"   yes: bytes to send", sent, 3, 8, 22)?;
+    let g = stands(to, sent.world, 2, 250_000_000)?;
     let all = plus(plus(plus(a, b), plus(c, d)), plus(plus(e, f), g));
-    plus(all, stays(sent.world))
+    Ok(plus(all, stays(to, sent.world)?))
 }
 
 // A keep-alive changes its slot once the host has sealed it, and not before.
-fn sealed(world: World) -> u32 {
-    let a = refused(b"   meanwhile, as", update(world, 43), 16);
+fn sealed(to: Stdout, world: World) -> io::Result<u32> {
+    let a = refused(to, b"   meanwhile, as", update(world, 43), 16)?;
     let no = seal(world, false);
-    let b = refused(b"   the host can't seal it, as", no, 24);
-    let c = stands(no.world, 0, 0);
+    let b = refused(to, b"   the host can't seal it, as", no, 24)?;
+    let c = stands(to, no.world, 0, 0)?;
     let sent = seal(world, true);
-    let d = told(b"   yes: bytes to send", sent, 3, 8, 25);
-    let e = stands(sent.world, 1, 250_000_000);
-    plus(plus(plus(a, b), plus(c, d)), plus(e, writes(sent.world)))
+    let d = told(to, b"   yes: bytes to send", sent, 3, 8, 25)?;
+    let e = stands(to, sent.world, 1, 250_000_000)?;
+    Ok(plus(
+        plus(plus(a, b), plus(c, d)),
+        plus(e, writes(to, sent.world)?),
+    ))
 }
 
 // Due 250 ms after the last packet.
-fn alive() -> u32 {
-    say(b"1. Set up at 10 s: three pumps, heard of and sent to at 10 s.\n");
+fn alive(to: Stdout) -> io::Result<u32> {
+    say(
+        to,
+        b"1. Set up at 10 s: three pumps, heard of and sent to at 10 s.\n",
+    )?;
     let early = later(started(), 0, 249_999_999);
     let a = nothing(
+        to,
         b"   a nanosecond before 250 ms, nothing:",
         update(early, 42),
-    );
+    )?;
     let due = update(later(early, 0, 1), 42);
     let b = asks(
+        to,
         b"   at 250 ms a keep-alive is to be sealed from byte",
         due,
         1,
         25,
-    );
+    )?;
     let c = print::bytes(
+        to,
         b"   slot 0 of three:",
         &due.head,
         &[4, 0, 0, 0, 0, 3, 0, 0, 0],
-    );
-    plus(plus(a, plus(b, c)), sealed(due.world))
+    )?;
+    Ok(plus(plus(a, plus(b, c)), sealed(to, due.world)?))
 }
 
-fn main() {
-    io::print_decimal(STDOUT_FILENO, alive() as u64);
-    say(b" of 46 lines hold\n");
+fn main(rt: HostRuntime) -> io::Result<()> {
+    let to = rt.stdout();
+    let right = alive(to)?;
+    println!(to; "{right} of 46 lines hold")
 }

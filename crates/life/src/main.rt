@@ -5,8 +5,9 @@
 
 use addresses::Address;
 use grants::PrivateConnectToken;
-use libc::STDOUT_FILENO;
 use server::NetcodeServer;
+use std::io;
+use std::io::{Print, Stdout};
 use times::Time;
 use turns::Turn;
 use upkeep::ServerConfig;
@@ -47,66 +48,69 @@ struct Said {
 
 // The lines that hold so far; no count here is near the end of its range.
 fn plus(a: u32, b: u32) -> u32 {
-    std::num::wrapping_add_u32(a, b)
+    a.wrapping_add(b)
 }
 
 // An answer of its case, and one of its words: of a refusal (case 0) its number (word 1), of a packet to send (3) its length (8), of a
 // client that is connected (5) or gone (6) its id (2).
-fn told(name: &[u8], said: Said, case: u64, i: usize, want: u64) -> u32 {
+fn told(to: Stdout, name: &[u8], said: Said, case: u64, i: usize, want: u64) -> io::Result<u32> {
     let words = said.words;
     if words[0] != case {
-        return print::number(name, words[0], case);
+        return print::number(to, name, words[0], case);
     }
     let value = if i < 9 { words[i] } else { 0 };
-    print::number(name, value, want)
+    print::number(to, name, value, want)
 }
 
 // An ask, case 2: the part that is to be opened or sealed.
-fn asks(name: &[u8], said: Said, start: u64, end: u64) -> u32 {
+fn asks(to: Stdout, name: &[u8], said: Said, start: u64, end: u64) -> io::Result<u32> {
     let words = said.words;
     if words[0] != 2 {
-        return print::number(name, words[0], 2);
+        return print::number(to, name, words[0], 2);
     }
-    plus(
-        print::number(name, said.start, start),
-        print::number(b"                            up to byte", said.end, end),
-    )
+    Ok(plus(
+        print::number(to, name, said.start, start)?,
+        print::number(to, b"                            up to byte", said.end, end)?,
+    ))
 }
 
 // A payload, case 4: whose, and its bytes. Its text is the low byte of its sequence.
-fn hands_out(name: &[u8], said: Said, low: u8, high: u8) -> u32 {
+fn hands_out(to: Stdout, name: &[u8], said: Said, low: u8, high: u8) -> io::Result<u32> {
     let words = said.words;
     if words[0] != 4 {
-        return print::number(name, words[0], 4);
+        return print::number(to, name, words[0], 4);
     }
     let datagram = packet(PAYLOAD, low, high);
     let want = [low, low, low, low];
-    plus(
-        print::number(name, words[2], 42),
+    Ok(plus(
+        print::number(to, name, words[2], 42)?,
         print::bytes(
+            to,
             b"                            its bytes:",
             bodies::payload(&datagram, words[7] as usize, words[8] as usize),
             &want,
-        ),
-    )
+        )?,
+    ))
 }
 
 // How many wait, and how many are connected.
-fn counts(world: World, waiting: u64, connected: u64) -> u32 {
+fn counts(to: Stdout, world: World, waiting: u64, connected: u64) -> io::Result<u32> {
     let pending = world.pending;
     let slots = world.slots;
-    plus(
+    Ok(plus(
         print::number(
+            to,
             b"   pending:",
             places::count_used(&pending, 2) as u64,
             waiting,
-        ),
+        )?,
         print::number(
+            to,
             b"   connected:",
             places::count_used(&slots, 2) as u64,
             connected,
-        ),
-    )
+        )?,
+    ))
 }
 
 // ---- the pump's datagrams. What is sealed stands here as the host leaves it once it has opened it in place: text, and a tag that
@@ -261,142 +265,159 @@ fn opened(world: World, granted: bool, kind: u8, low: u8, high: u8) -> Said {
 }
 
 // The pump goes, and what it sends then comes from nobody.
-fn goes(world: World) -> u32 {
-    io::write_all(STDOUT_FILENO, b"4. Disconnect.\n");
+fn goes(to: Stdout, world: World) -> io::Result<u32> {
+    to.write_all(b"4. Disconnect.\n")?;
     let gone = opened(world, true, DISCONNECT, 46, 1);
-    let a = told(b"   302, a disconnect: gone is client", gone, 6, 2, 42);
+    let a = told(to, b"   302, a disconnect: gone is client", gone, 6, 2, 42)?;
     let left = gone.world;
-    let b = counts(left, 0, 0);
+    let b = counts(to, left, 0, 0)?;
     let c = told(
+        to,
         b"   303, refused as",
         sends(left, 5001, PAYLOAD, 47, 1),
         0,
         1,
         3,
-    );
-    plus(plus(a, b), c)
+    )?;
+    Ok(plus(plus(a, b), c))
 }
 
 // Far ahead, too far behind, and just within the window.
-fn ages(world: World) -> u32 {
+fn ages(to: Stdout, world: World) -> io::Result<u32> {
     let ahead = opened(world, true, PAYLOAD, 44, 1);
-    let a = hands_out(b"   300, from client", ahead, 44, 1);
+    let a = hands_out(to, b"   300, from client", ahead, 44, 1)?;
     let old = sends(ahead.world, 5001, PAYLOAD, 44, 0);
-    let b = told(b"   44, refused as", old, 0, 1, 6);
+    let b = told(to, b"   44, refused as", old, 0, 1, 6)?;
     let within = opened(ahead.world, true, PAYLOAD, 45, 0);
-    let c = hands_out(b"   45, from client", within, 45, 0);
-    plus(plus(a, b), plus(c, goes(within.world)))
+    let c = hands_out(to, b"   45, from client", within, 45, 0)?;
+    Ok(plus(plus(a, b), plus(c, goes(to, within.world)?)))
 }
 
 // A forgery does not shut out the packet whose sequence it took.
-fn forged(world: World) -> u32 {
+fn forged(to: Stdout, world: World) -> io::Result<u32> {
     let no = opened(world, false, PAYLOAD, 3, 0);
-    let a = told(b"   3, forged: the host says no, as", no, 0, 1, 8);
+    let a = told(to, b"   3, forged: the host says no, as", no, 0, 1, 8)?;
     let real = opened(no.world, true, PAYLOAD, 3, 0);
-    let b = hands_out(b"   3 itself, from client", real, 3, 0);
-    plus(plus(a, b), ages(real.world))
+    let b = hands_out(to, b"   3 itself, from client", real, 3, 0)?;
+    Ok(plus(plus(a, b), ages(to, real.world)?))
 }
 
 // In and out of order, repeated, from elsewhere.
-fn reads(world: World) -> u32 {
-    io::write_all(STDOUT_FILENO, b"3. Payloads.\n");
+fn reads(to: Stdout, world: World) -> io::Result<u32> {
+    to.write_all(b"3. Payloads.\n")?;
     let second = opened(world, true, PAYLOAD, 2, 0);
-    let a = hands_out(b"   sequence 2, from client", second, 2, 0);
+    let a = hands_out(to, b"   sequence 2, from client", second, 2, 0)?;
     let first = opened(second.world, true, PAYLOAD, 1, 0);
-    let b = hands_out(b"   then 1, from client", first, 1, 0);
+    let b = hands_out(to, b"   then 1, from client", first, 1, 0)?;
     let left = first.world;
     let c = told(
+        to,
         b"   2 again, refused as",
         sends(left, 5001, PAYLOAD, 2, 0),
         0,
         1,
         6,
-    );
+    )?;
     let d = told(
+        to,
         b"   3 from port 5002, refused as",
         sends(left, 5002, PAYLOAD, 3, 0),
         0,
         1,
         3,
-    );
-    plus(plus(plus(a, b), plus(c, d)), forged(left))
+    )?;
+    Ok(plus(plus(plus(a, b), plus(c, d)), forged(to, left)?))
 }
 
 // The keep-alive is sealed: the pump is connected.
-fn connects(world: World) -> u32 {
+fn connects(to: Stdout, world: World) -> io::Result<u32> {
     let done = seal(world, true);
-    let a = told(b"   yes: connected is client", done, 5, 2, 42);
-    let b = told(b"                            in slot", done, 5, 3, 0);
+    let a = told(to, b"   yes: connected is client", done, 5, 2, 42)?;
+    let b = told(to, b"                            in slot", done, 5, 3, 0)?;
     let left = done.world;
-    let c = counts(left, 0, 1);
-    plus(plus(a, b), plus(c, reads(left)))
+    let c = counts(to, left, 0, 1)?;
+    Ok(plus(plus(a, b), plus(c, reads(to, left)?)))
 }
 
 // The response, under sequence 0: the challenge's sequence, 1, and its token: client 42, user data of nines. Two opens, then a keep-alive is to be
 // sealed; until then the pump neither waits nor is connected.
-fn responds(world: World) -> u32 {
-    io::write_all(STDOUT_FILENO, b"2. The response.\n");
+fn responds(to: Stdout, world: World) -> io::Result<u32> {
+    to.write_all(b"2. The response.\n")?;
     let mut datagram = [9u8; 325];
     serialize::copy_bytes(&mut datagram, 0, &RESPONSE, 0, 17);
     let asked = hear(world, 5001, &datagram);
-    let a = asks(b"   the host is to open from byte", asked, 1, 325);
+    let a = asks(to, b"   the host is to open from byte", asked, 1, 325)?;
     let proof = open(asked.world, true, &datagram);
-    let b = asks(b"   yes: and its challenge, from byte", proof, 9, 309);
+    let b = asks(to, b"   yes: and its challenge, from byte", proof, 9, 309)?;
     let sealing = open(proof.world, true, &datagram);
     let c = asks(
+        to,
         b"   yes: a keep-alive is to be sealed from byte",
         sealing,
         1,
         25,
-    );
+    )?;
     let left = sealing.world;
-    let d = counts(left, 0, 0);
-    plus(plus(a, b), plus(plus(c, d), connects(left)))
+    let d = counts(to, left, 0, 0)?;
+    Ok(plus(plus(a, b), plus(plus(c, d), connects(to, left)?)))
 }
 
 // The challenge: its token is to be sealed, then the packet around it; then the pump waits.
-fn challenges(token: Said) -> u32 {
+fn challenges(to: Stdout, token: Said) -> io::Result<u32> {
     let a = asks(
+        to,
         b"   yes, for us: a token is to be sealed from byte",
         token,
         9,
         309,
-    );
+    )?;
     let world = token.world;
     let b = told(
+        to,
         b"   the host can't seal it, as",
         seal(world, false),
         0,
         1,
         24,
-    );
+    )?;
     let whole = seal(world, true);
-    let c = asks(b"   yes: the packet around it, from byte", whole, 1, 325);
+    let c = asks(
+        to,
+        b"   yes: the packet around it, from byte",
+        whole,
+        1,
+        325,
+    )?;
     let sent = seal(whole.world, true);
-    let d = told(b"   yes: a challenge goes out, bytes:", sent, 3, 8, 325);
+    let d = told(to, b"   yes: a challenge goes out, bytes:", sent, 3, 8, 325)?;
     let left = sent.world;
-    let e = counts(left, 1, 0);
-    plus(plus(plus(a, b), plus(c, d)), plus(e, responds(left)))
+    let e = counts(to, left, 1, 0)?;
+    Ok(plus(plus(plus(a, b), plus(c, d)), plus(e, responds(to, left)?)))
 }
 
 // A request for protocol 7, with version 1.02, whose token expires at 100 s, nonce and private data of sixes; and what its open ask holds up.
-fn requests(world: World) -> u32 {
-    io::write_all(
-        STDOUT_FILENO,
-        b"1. Set up at 10 s: two slots, two pending places. A request from port 5001.\n",
-    );
+fn requests(to: Stdout, world: World) -> io::Result<u32> {
+    to.write_all(b"1. Set up at 10 s: two slots, two pending places. A request from port 5001.\n")?;
     let mut datagram = [6u8; 1078];
     serialize::copy_bytes(&mut datagram, 0, &REQUEST, 0, 30);
     let asked = hear(world, 5001, &datagram);
-    let a = asks(b"   the host is to open from byte", asked, 54, 1078);
+    let a = asks(to, b"   the host is to open from byte", asked, 54, 1078)?;
     let left = asked.world;
     let again = hear(left, 5002, &datagram);
-    let b = told(b"   another datagram meanwhile, as", again, 0, 1, 16);
-    let c = told(b"   an answer about a seal, as", seal(left, true), 0, 1, 18);
-    plus(plus(a, b), plus(c, challenges(grant(left))))
+    let b = told(to, b"   another datagram meanwhile, as", again, 0, 1, 16)?;
+    let c = told(
+        to,
+        b"   an answer about a seal, as",
+        seal(left, true),
+        0,
+        1,
+        18,
+    )?;
+    Ok(plus(plus(a, b), plus(c, challenges(to, grant(left))?)))
 }
 
-fn main() {
-    io::print_decimal(STDOUT_FILENO, requests(started()) as u64);
-    io::write_all(STDOUT_FILENO, b" of 42 lines hold\n");
+fn main(rt: HostRuntime) -> io::Result<()> {
+    let to = rt.stdout();
+    let right = requests(to, started())?;
+    println!(to; "{right} of 42 lines hold")
 }

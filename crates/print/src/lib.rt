@@ -1,11 +1,12 @@
 // A line for each figure.
 #![tactic(auto)]
 
-ghost use Rattle.std.specs.Prelude.{◌≡◌, ◌≤◌, ◌<◌, eqb};
+ghost use Rattle.std.specs.Prelude.{◌≡◌, ◌≤◌, ◌<◌, eqb, IfOk};
 ghost use Rattle.serialize.specs.Runs.{alike};
 ghost use Rattle.print.specs.Verdict.{bit};
 
-use libc::STDOUT_FILENO;
+use std::io;
+use std::io::{Print, Stdout};
 
 // The digit of n, in hexadecimal.
 fn digit(n: u8) -> u8
@@ -14,60 +15,58 @@ fn digit(n: u8) -> u8
     if n < 10 { n + 48 } else { n + 55 }
 }
 
-fn byte(b: u8) {
+fn byte(to: Stdout, b: u8) -> io::Result<()> {
     let pair = [32, digit(b / 16), digit(b % 16)];
-    io::write_all(STDOUT_FILENO, &pair);
+    to.write_all(&pair)
 }
 
-fn hex(s: &[u8]) {
-    let mut i: usize = 0;
-    while i < s.len() {
-        byte(s[i]);
-        i += 1;
+fn hex(to: Stdout, s: &[u8]) -> io::Result<()> {
+    for b in s {
+        byte(to, *b)?;
     }
+    Ok(())
 }
 
 // 1 with the word for it where a figure holds, 0 where not. The bound is for sums.
-fn verdict(holds: bool) -> u32
-    ensures { (result ≡ bit holds) × (result ≤ 1) }
+fn verdict(to: Stdout, holds: bool) -> io::Result<u32>
+    ensures { IfOk result (λ r. (r ≡ bit holds) × (r ≤ 1)) }
 {
     if holds {
-        io::write_all(STDOUT_FILENO, b"  holds\n");
-        1
+        to.write_all(b"  holds\n")?;
+        Ok(1)
     } else {
-        io::write_all(STDOUT_FILENO, b"  DOES NOT HOLD\n");
-        0
+        to.write_all(b"  DOES NOT HOLD\n")?;
+        Ok(0)
     }
 }
 
 // 1 where the bytes that came out are those that are wanted, 0 where not.
-pub fn bytes(name: &[u8], got: &[u8], want: &[u8]) -> u32
-    ensures { (result ≡ bit (alike got.now want.now)) × (result ≤ 1) }
+pub fn bytes(to: Stdout, name: &[u8], got: &[u8], want: &[u8]) -> io::Result<u32>
+    ensures { IfOk result (λ r. (r ≡ bit (alike got.now want.now)) × (r ≤ 1)) }
 {
-    io::write_all(STDOUT_FILENO, name);
-    hex(got);
+    to.write_all(name)?;
+    hex(to, got)?;
     let n = got.len();
     if n != want.len() {
-        return verdict(false);
+        return verdict(to, false);
     }
-    verdict(serialize::same_bytes(got, 0, want, 0, n))
+    verdict(to, serialize::same_bytes(got, 0, want, 0, n))
 }
 
 // The same for a number.
-pub fn number(name: &[u8], got: u64, want: u64) -> u32
-    ensures { (result ≡ bit (eqb got want)) × (result ≤ 1) }
+pub fn number(to: Stdout, name: &[u8], got: u64, want: u64) -> io::Result<u32>
+    ensures { IfOk result (λ r. (r ≡ bit (eqb got want)) × (r ≤ 1)) }
 {
-    io::write_all(STDOUT_FILENO, name);
-    io::write_all(STDOUT_FILENO, b" ");
-    io::print_decimal(STDOUT_FILENO, got);
-    verdict(got == want)
+    to.write_all(name)?;
+    print!(to; " {got}")?;
+    verdict(to, got == want)
 }
 
 // A number was wanted, and the answer is a refusal.
-pub fn refused(name: &[u8]) -> u32
-    ensures { (result ≡ 0) × (result ≤ 1) }
+pub fn refused(to: Stdout, name: &[u8]) -> io::Result<u32>
+    ensures { IfOk result (λ r. (r ≡ 0) × (r ≤ 1)) }
 {
-    io::write_all(STDOUT_FILENO, name);
-    io::write_all(STDOUT_FILENO, b" refused");
-    verdict(false)
+    to.write_all(name)?;
+    to.write_all(b" refused")?;
+    verdict(to, false)
 }

@@ -3,11 +3,12 @@
 #![tactic(auto)]
 
 use addresses::Address;
-use libc::STDOUT_FILENO;
 use queries::Reply;
 use records::Connection;
 use replay_protection::ReplayProtection;
 use server::{NetcodeServer, OpenAsk, Stage, Step};
+use std::io;
+use std::io::{Print, Stdout};
 use times::Time;
 use upkeep::ServerConfig;
 
@@ -20,13 +21,13 @@ const PUBLIC: [u64; 3] = [267_144, 16_777_343, 0];
 
 const MALFORMED: [u64; 3] = [327_680, 0, 0];
 
-fn say(text: &[u8]) {
-    io::write_all(STDOUT_FILENO, text);
+fn say(to: Stdout, text: &[u8]) -> io::Result<()> {
+    to.write_all(text)
 }
 
 // The lines that hold so far; no count here is near the end of its range.
 fn plus(a: u32, b: u32) -> u32 {
-    std::num::wrapping_add_u32(a, b)
+    a.wrapping_add(b)
 }
 
 fn config(max_clients: usize, secs: u64, nanos: u64) -> ServerConfig {
@@ -108,30 +109,41 @@ fn no_entries() -> u64 {
     set_up_with(2, 0, 0, &mut slots, &mut entries[..0], &PUBLIC)
 }
 
-fn sets_up() -> u32 {
-    say(b"1. Set-up: two slots, two pending places, two token entries, one public address.\n");
+fn sets_up(to: Stdout) -> io::Result<u32> {
+    say(
+        to,
+        b"1. Set-up: two slots, two pending places, two token entries, one public address.\n",
+    )?;
     let a = print::number(
+        to,
         b"   refused as, 0 for not:",
         two_of_each(2, 0, 0, &PUBLIC),
         0,
-    );
-    let b = print::number(b"   no slots, refused as:", no_slots(), 23);
+    )?;
+    let b = print::number(to, b"   no slots, refused as:", no_slots(), 23)?;
     let c = print::number(
+        to,
         b"   621 words for slots, refused as:",
         a_word_too_many(),
         23,
-    );
-    let d = print::number(b"   no token entries, refused as:", no_entries(), 23);
+    )?;
+    let d = print::number(to, b"   no token entries, refused as:", no_entries(), 23)?;
     let e = print::number(
+        to,
         b"   a limit of three, refused as:",
         two_of_each(3, 0, 0, &PUBLIC),
         23,
-    );
+    )?;
     let wrong = two_of_each(2, 0, 0, &MALFORMED);
-    let f = print::number(b"   a public address of kind 5, refused as:", wrong, 19);
+    let f = print::number(to, b"   a public address of kind 5, refused as:", wrong, 19)?;
     let late = two_of_each(2, MOST, SECOND, &PUBLIC);
-    let g = print::number(b"   a start at 2^64-1 s and 10^9 ns, refused as:", late, 20);
-    plus(plus(plus(a, b), plus(c, d)), plus(plus(e, f), g))
+    let g = print::number(
+        to,
+        b"   a start at 2^64-1 s and 10^9 ns, refused as:",
+        late,
+        20,
+    )?;
+    Ok(plus(plus(plus(a, b), plus(c, d)), plus(plus(e, f), g)))
 }
 
 // A server with two slots and two pending places; what stood in the tables does not matter.
@@ -157,18 +169,18 @@ fn put_pump(table: &mut [u64; 620], received: Time) {
     records::fill(table, 2, 1, pump(7, received));
 }
 
-fn used(name: &[u8], table: &[u64; 620], want: u64) -> u32 {
-    print::number(name, places::count_used(table, 2) as u64, want)
+fn used(to: Stdout, name: &[u8], table: &[u64; 620], want: u64) -> io::Result<u32> {
+    print::number(to, name, places::count_used(table, 2) as u64, want)
 }
 
-fn seconds(server: NetcodeServer, want: u64) -> u32 {
+fn seconds(to: Stdout, server: NetcodeServer, want: u64) -> io::Result<u32> {
     let clock = queries::current_time(server);
-    print::number(b"   the clock's seconds:", clock.secs, want)
+    print::number(to, b"   the clock's seconds:", clock.secs, want)
 }
 
-fn nanoseconds(server: NetcodeServer, want: u64) -> u32 {
+fn nanoseconds(to: Stdout, server: NetcodeServer, want: u64) -> io::Result<u32> {
     let clock = queries::current_time(server);
-    print::number(b"   and nanoseconds:", clock.nanos, want)
+    print::number(to, b"   and nanoseconds:", clock.nanos, want)
 }
 
 fn moved_on(server: NetcodeServer, pending: &mut [u64; 620], nanos: u64) -> NetcodeServer {
@@ -176,16 +188,17 @@ fn moved_on(server: NetcodeServer, pending: &mut [u64; 620], nanos: u64) -> Netc
     step.server
 }
 
-fn waits() -> u32 {
+fn waits(to: Stdout) -> io::Result<u32> {
     say(
+        to,
         b"2. A pump waits; its token expires at 100 s. Set up at 99 s and 10^9 ns, over tables full of AA.\n",
-    );
+    )?;
     let mut slots = [0xaaaa_aaaa_aaaa_aaaa; 620];
     let mut pending = [0xaaaa_aaaa_aaaa_aaaa; 620];
     let server = started(&mut slots, &mut pending, 99, SECOND);
-    let a = plus(seconds(server, 100), nanoseconds(server, 0));
-    let b = used(b"   connected:", &slots, 0);
-    let c = used(b"   pending:", &pending, 0);
+    let a = plus(seconds(to, server, 100)?, nanoseconds(to, server, 0)?);
+    let b = used(to, b"   connected:", &slots, 0)?;
+    let c = used(to, b"   pending:", &pending, 0)?;
     put_pump(
         &mut pending,
         Time {
@@ -194,13 +207,13 @@ fn waits() -> u32 {
         },
     );
     let at_100 = moved_on(server, &mut pending, 0);
-    let d = used(b"   at 100 s, pending:", &pending, 1);
+    let d = used(to, b"   at 100 s, pending:", &pending, 1)?;
     let later = moved_on(at_100, &mut pending, 999_999_999);
-    let e = used(b"   at 100 s and 999,999,999 ns, pending:", &pending, 1);
+    let e = used(to, b"   at 100 s and 999,999,999 ns, pending:", &pending, 1)?;
     let at_101 = moved_on(later, &mut pending, 1);
-    let f = used(b"   a nanosecond later, pending:", &pending, 0);
-    let g = plus(seconds(at_101, 101), nanoseconds(at_101, 0));
-    plus(plus(plus(a, b), plus(c, d)), plus(plus(e, f), g))
+    let f = used(to, b"   a nanosecond later, pending:", &pending, 0)?;
+    let g = plus(seconds(to, at_101, 101)?, nanoseconds(to, at_101, 0)?);
+    Ok(plus(plus(plus(a, b), plus(c, d)), plus(plus(e, f), g)))
 }
 
 // The first value of a reply: a count, seconds, or the first word of an address.
@@ -237,63 +250,76 @@ fn seconds_ago(server: NetcodeServer, slots: &[u64; 620]) -> u64 {
     value(queries::time_since_last_received_packet(server, slots, 7))
 }
 
-fn lists(server: NetcodeServer, slots: &[u64; 620]) -> u32 {
+fn lists(to: Stdout, server: NetcodeServer, slots: &[u64; 620]) -> io::Result<u32> {
     let mut list = [0u64; 2];
     let ids = queries::clients_id(server, slots, &mut list);
-    let a = print::number(b"   ids listed:", value(ids), 1);
-    let b = print::number(b"   the first:", list[0], 7);
+    let a = print::number(to, b"   ids listed:", value(ids), 1)?;
+    let b = print::number(to, b"   the first:", list[0], 7)?;
     let places = queries::clients_slot(server, slots, &mut list);
-    let c = print::number(b"   slots listed:", value(places), 1);
-    let d = print::number(b"   the first:", list[0], 1);
+    let c = print::number(to, b"   slots listed:", value(places), 1)?;
+    let d = print::number(to, b"   the first:", list[0], 1)?;
     let short = queries::clients_id(server, slots, &mut list[..0]);
-    let e = print::number(b"   into a list of none, refused as:", number(short), 14);
-    plus(plus(plus(a, b), plus(c, d)), e)
+    let e = print::number(
+        to,
+        b"   into a list of none, refused as:",
+        number(short),
+        14,
+    )?;
+    Ok(plus(plus(plus(a, b), plus(c, d)), e))
 }
 
-fn asks_of_7(server: NetcodeServer, slots: &[u64; 620]) -> u32 {
+fn asks_of_7(to: Stdout, server: NetcodeServer, slots: &[u64; 620]) -> io::Result<u32> {
     let mut data = [0u8; 256];
     let a = print::number(
+        to,
         b"   7 is connected, 1 for yes:",
         connected(server, slots, 7),
         1,
-    );
+    )?;
     let b = print::number(
+        to,
         b"   8 is connected, 1 for yes:",
         connected(server, slots, 8),
         0,
-    );
+    )?;
     let addr = value(queries::client_addr(server, slots, 7));
-    let c = print::number(b"   7's port:", addr % 65536, 5001);
+    let c = print::number(to, b"   7's port:", addr % 65536, 5001)?;
     let d = print::number(
+        to,
         b"   its last packet came, seconds ago:",
         seconds_ago(server, slots),
         10,
-    );
+    )?;
     let reply = queries::user_data(server, slots, 7, &mut data);
     let e = print::number(
+        to,
         b"   its user data, refused as, 0 for not:",
         number(reply),
         0,
-    );
-    let f = print::number(b"   its last byte:", wide(data[255]), 3);
-    plus(plus(plus(a, b), plus(c, d)), plus(e, f))
+    )?;
+    let f = print::number(to, b"   its last byte:", wide(data[255]), 3)?;
+    Ok(plus(plus(plus(a, b), plus(c, d)), plus(e, f)))
 }
 
-fn answers() -> u32 {
-    say(b"3. Pump 7 is connected in slot 1, its last packet came at 90 s; now it is 100 s.\n");
+fn answers(to: Stdout) -> io::Result<u32> {
+    say(
+        to,
+        b"3. Pump 7 is connected in slot 1, its last packet came at 90 s; now it is 100 s.\n",
+    )?;
     let mut slots = [0xaaaa_aaaa_aaaa_aaaa; 620];
     let mut pending = [0xaaaa_aaaa_aaaa_aaaa; 620];
     let server = started(&mut slots, &mut pending, 100, 0);
     put_pump(&mut slots, Time { secs: 90, nanos: 0 });
-    let a = print::number(b"   connected:", value(count(server, &slots)), 1);
-    let b = plus(lists(server, &slots), asks_of_7(server, &slots));
+    let a = print::number(to, b"   connected:", value(count(server, &slots)), 1)?;
+    let b = plus(lists(to, server, &slots)?, asks_of_7(to, server, &slots)?);
     let short = [0u64; 310];
     let other = queries::connected_clients(server, &short);
     let c = print::number(
+        to,
         b"   with a table of 310 words, refused as:",
         number(other),
         23,
-    );
+    )?;
     put_pump(
         &mut slots,
         Time {
@@ -302,11 +328,12 @@ fn answers() -> u32 {
         },
     );
     let d = print::number(
+        to,
         b"   had it come at 200 s, seconds ago:",
         seconds_ago(server, &slots),
         0,
-    );
-    plus(plus(a, b), plus(c, d))
+    )?;
+    Ok(plus(plus(a, b), plus(c, d)))
 }
 
 // The number that refused a call, 0 for none.
@@ -332,37 +359,48 @@ fn asking(server: NetcodeServer) -> NetcodeServer {
     )
 }
 
-fn holds_up() -> u32 {
-    say(b"4. While an ask is open, and the limit.\n");
+fn holds_up(to: Stdout) -> io::Result<u32> {
+    say(to, b"4. While an ask is open, and the limit.\n")?;
     let mut slots = [0xaaaa_aaaa_aaaa_aaaa; 620];
     let mut pending = [0xaaaa_aaaa_aaaa_aaaa; 620];
     let server = started(&mut slots, &mut pending, 100, 0);
     let busy = asking(server);
-    let a = print::number(b"   update, refused as:", a_second(busy, &mut pending), 16);
+    let a = print::number(
+        to,
+        b"   update, refused as:",
+        a_second(busy, &mut pending),
+        16,
+    )?;
     let limit = upkeep::set_max_clients(busy, 1);
-    let b = print::number(b"   the limit, refused as:", told(limit), 16);
+    let b = print::number(to, b"   the limit, refused as:", told(limit), 16)?;
     let c = print::number(
+        to,
         b"   a query, refused as, 0 for not:",
         number(count(busy, &slots)),
         0,
-    );
+    )?;
     let high = upkeep::set_max_clients(server, 5000);
     let d = print::number(
+        to,
         b"   none open, a limit of 5,000 is:",
         queries::max_clients(high.server) as u64,
         1024,
-    );
+    )?;
     let low = upkeep::set_max_clients(server, 0);
     let e = print::number(
+        to,
         b"   a limit of 0 is:",
         queries::max_clients(low.server) as u64,
         0,
-    );
-    plus(plus(plus(a, b), plus(c, d)), e)
+    )?;
+    Ok(plus(plus(plus(a, b), plus(c, d)), e))
 }
 
-fn main() {
-    let right = plus(plus(sets_up(), waits()), plus(answers(), holds_up()));
-    io::print_decimal(STDOUT_FILENO, right as u64);
-    io::write_all(STDOUT_FILENO, b" of 35 lines hold\n");
+fn main(rt: HostRuntime) -> io::Result<()> {
+    let to = rt.stdout();
+    let right = plus(
+        plus(sets_up(to)?, waits(to)?),
+        plus(answers(to)?, holds_up(to)?),
+    );
+    println!(to; "{right} of 35 lines hold")
 }
