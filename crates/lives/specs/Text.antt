@@ -1,5 +1,5 @@
 -- A line's tokens, and what they say: numbers in decimal, bytes in hexadecimal.
-use Rattle.std.specs.Prelude.{ℕ, zero, suc, ◌+◌, ◌-◌, ◌*◌, ◌/◌, ◌%◌, ◌^◌, min, Bool, true, List, [], ◌∷◌, length, drop, ◌==◌, nat_le, nat_lt, slice_index}
+use Rattle.std.specs.Prelude.{◌≡◌, ℕ, zero, suc, ◌+◌, ◌-◌, ◌*◌, ◌/◌, ◌%◌, ◌^◌, ◌≤◌, min, Bool, true, List, [], ◌∷◌, length, take, drop, ◌==◌, nat_le, nat_lt, slice_index}
 use Rattle.serialize.specs.Choice.{pick}
 use Rattle.serialize.specs.Runs.{both}
 

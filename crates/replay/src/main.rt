@@ -200,5 +200,10 @@ fn main(rt: HostRuntime) -> io::Result<()> {
     replay_all(&mut rt.stdin(), &mut space, &mut line, &mut counts)?;
     rows(rt, &counts)?;
     say(rt, b"all")?;
-    figures(rt, total(&counts, 0), total(&counts, 11), total(&counts, 22))
+    figures(
+        rt,
+        total(&counts, 0),
+        total(&counts, 11),
+        total(&counts, 22),
+    )
 }
