@@ -48,7 +48,7 @@ def snake_word(w):
 
 
 def declared():
-    heads, fields = collections.Counter(), collections.Counter()
+    heads, fields, inner = collections.Counter(), collections.Counter(), set()
     for f in own_files():
         text = open(f, encoding="utf-8").read()
         inside, depth, section = False, 0, False
@@ -69,15 +69,19 @@ def declared():
             # A lemma of a section: its signature, and an equation for it at the same depth.
             m = INNER.match(line) if section and not inside else None
             if m and re.search(rf"(?m)^{m.group(1)}{re.escape(m.group(2))}(?: [^:\n]*)?=", text):
+                if m.group(2) not in heads:
+                    inner.add(m.group(2))
                 heads[m.group(2)] += 1
             m = HEAD.match(line)
             if m and not line.startswith(("use ", "unfolding ", "pub mod ", "mod ")):
-                heads[next(g for g in m.groups() if g)] += 1
-    return heads, fields
+                name = next(g for g in m.groups() if g)
+                inner.discard(name)
+                heads[name] += 1
+    return heads, fields, inner
 
 
 def renaming():
-    heads, fields = declared()
+    heads, fields, inner = declared()
     new = {}
     for n in sorted(heads):
         # A lemma named after a type keeps the dash: IsPrefix-mem.
@@ -92,7 +96,7 @@ def renaming():
     for s, olds in taken.items():
         if len(olds) > 1:
             for n in olds:
-                if "-" in n or n == s and any(re.search("[a-z][A-Z]", o) for o in olds):
+                if "-" in n or n == s and n not in inner and any(re.search("[a-z][A-Z]", o) for o in olds):
                     new[n] = s + "_lem"
     of_fields = {}
     for n in sorted(fields):

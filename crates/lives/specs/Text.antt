@@ -1,5 +1,5 @@
 -- A line's tokens, and what they say: numbers in decimal, bytes in hexadecimal.
-use Rattle.std.specs.Prelude.{ℕ, zero, suc, ◌+◌, ◌-◌, ◌*◌, ◌/◌, ◌%◌, ◌^◌, min, Bool, true, List, [], ◌∷◌, length, drop, ◌==◌, nat_le, nat_lt, slice_index}
+use Rattle.std.specs.Prelude.{◌≡◌, ℕ, zero, suc, ◌+◌, ◌-◌, ◌*◌, ◌/◌, ◌%◌, ◌^◌, ◌≤◌, min, Bool, true, List, [], ◌∷◌, length, take, drop, ◌==◌, nat_le, nat_lt, slice_index}
 use Rattle.serialize.specs.Choice.{pick}
 use Rattle.serialize.specs.Runs.{both}
 
@@ -54,3 +54,7 @@ unhex (suc n) w = pair_of (slice_index w 0) (slice_index w 1) ∷ unhex n (drop 
 -- the bytes that a token says, as many as there is room for
 abbrev pub bytes_of : ℕ → List ℕ → List ℕ
 bytes_of room w = unhex (min (length w / 2) room) w
+
+-- n bytes fill the start of a list; the second part follows from the first, and spares a caller's `&buf[..n]` a proof
+abbrev pub IsPrefixLen : ℕ → List ℕ → Type 0
+IsPrefixLen n xs = (n ≤ length xs) × (n ≡ length (take n xs))

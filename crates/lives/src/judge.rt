@@ -3,6 +3,7 @@
 use crate::report::COUNTS;
 use crate::say::ROOM;
 use crate::{kinds, report, text};
+use std::io;
 
 // One character of the first n, ever another one, is a digit that it was not.
 fn spoil(said: &mut [u8; ROOM], n: usize, number: u64) {
@@ -29,32 +30,39 @@ fn first_difference(a: &[u8], b: &[u8]) -> usize {
     n
 }
 
-fn place(counts: &[u64; COUNTS]) {
-    report::say(b"line ");
-    report::say_number(report::lines(counts));
+fn place(rt: HostRuntime, counts: &[u64; COUNTS]) -> io::Result<()> {
+    report::say(rt, b"line ")?;
+    report::say_number(rt, report::lines(counts))
 }
 
 // The first value that differs, counted from 1.
-fn tell(letter: u8, right: &[u8], said: &[u8], counts: &[u64; COUNTS]) {
+fn tell(
+    rt: HostRuntime,
+    letter: u8,
+    right: &[u8],
+    said: &[u8],
+    counts: &[u64; COUNTS],
+) -> io::Result<()> {
     let which = text::spaces(bodies::field(said, 0, 0, first_difference(right, said)));
-    place(counts);
-    report::say(b", ");
-    report::say(&[letter]);
-    report::say(b": value ");
-    report::say_number(which as u64);
-    report::say(b" is ");
-    report::say(text::token(said, which));
-    report::say(b", the Rust's ");
-    report::say(text::token(right, which));
-    report::say(b"\n");
+    place(rt, counts)?;
+    report::say(rt, b", ")?;
+    report::say(rt, &[letter])?;
+    report::say(rt, b": value ")?;
+    report::say_number(rt, which as u64)?;
+    report::say(rt, b" is ")?;
+    report::say(rt, text::token(said, which))?;
+    report::say(rt, b", the Rust's ")?;
+    report::say(rt, text::token(right, which))?;
+    report::say(rt, b"\n")
 }
 
 // A line that is no call.
-fn pass(counts: &[u64; COUNTS]) {
+fn pass(rt: HostRuntime, counts: &[u64; COUNTS]) -> io::Result<()> {
     if report::are_few(counts) {
-        place(counts);
-        report::say(b" is no call\n");
+        place(rt, counts)?;
+        report::say(rt, b" is no call\n")?;
     }
+    Ok(())
 }
 
 // A text as the Rust's, which is changed, and is then another.
@@ -68,36 +76,36 @@ fn count_same(right: &[u8], said: &mut [u8; ROOM], n: usize, counts: &mut [u64; 
 }
 
 // A line that makes no call is not to say what comes of it.
-fn settle(right: &[u8], counts: &mut [u64; COUNTS]) {
+fn settle(rt: HostRuntime, right: &[u8], counts: &mut [u64; COUNTS]) -> io::Result<()> {
     if right.len() == 0 {
         report::count_same(counts);
-        return;
+        return Ok(());
     }
-    pass(counts);
+    pass(rt, counts)
 }
 
 // The first n characters of said are what came out. What differs is told of the first lines alone.
 pub(crate) fn compare(
+    rt: HostRuntime,
     letter: u8,
     right: &[u8],
     said: &mut [u8; ROOM],
     n: usize,
     counts: &mut [u64; COUNTS],
-) {
+) -> io::Result<()> {
     if letter == b' ' {
-        pass(counts);
-        return;
+        return pass(rt, counts);
     }
     if kinds::is_setting(letter) {
-        settle(right, counts);
-        return;
+        return settle(rt, right, counts);
     }
     report::count_answer(counts, letter, bodies::field(said, 0, 0, n));
     if is_said(right, said, n) {
         count_same(right, said, n, counts);
-        return;
+        return Ok(());
     }
     if report::are_few(counts) {
-        tell(letter, right, bodies::field(said, 0, 0, n), counts);
+        return tell(rt, letter, right, bodies::field(said, 0, 0, n), counts);
     }
+    Ok(())
 }

@@ -6,6 +6,7 @@
 use report::COUNTS;
 use say::ROOM;
 use standing::SIZES;
+use std::io;
 
 mod alter;
 mod asking;
@@ -133,6 +134,7 @@ fn begin(
 // A line without its end: the call, and whether it came to what stands right of the sign. Answer and ask are filled before, so that what a
 // call leaves unwritten shows.
 fn take(
+    rt: HostRuntime,
     line: &[u8],
     server: &mut [u64; 34],
     slots: &mut [u64; 2480],
@@ -145,7 +147,7 @@ fn take(
     sizes: &mut [usize; SIZES],
     said: &mut [u8; ROOM],
     counts: &mut [u64; COUNTS],
-) {
+) -> io::Result<()> {
     let letter = begin(line, sizes, public, counts);
     alter::alter(letter, left(line), server, slots, pending, entries);
     datagrams::keep(letter, left(line), datagram, sizes);
@@ -179,13 +181,14 @@ fn take(
         &ask,
         said,
     );
-    judge::compare(letter, right(line), said, n, counts);
+    judge::compare(rt, letter, right(line), said, n, counts)
 }
 
 // A proved loop has to end, and nothing says that the input does: no run uses its turns up.
-fn replay_all() -> [u64; COUNTS] {
+fn replay_all(rt: HostRuntime) -> io::Result<[u64; COUNTS]> {
+    let mut input = rt.stdin();
     let mut counts = [0u64; COUNTS];
-    let mut space = io::large_buffer();
+    let mut space = [0u8; 65536];
     let mut window = [0usize; 2];
     let mut line = [0u8; 16384];
     let mut server = [0u64; 34];
@@ -199,11 +202,12 @@ fn replay_all() -> [u64; COUNTS] {
     let mut sizes = [0usize; 10];
     let mut said = [0u8; 4096];
     for _ in 0..u64::MAX {
-        let n = lines::next(&mut space, &mut window, &mut line);
+        let n = lines::next(&mut input, &mut space, &mut window, &mut line)?;
         if n == 0 {
-            return counts;
+            return Ok(counts);
         }
         take(
+            rt,
             content(&line, n),
             &mut server,
             &mut slots,
@@ -216,12 +220,12 @@ fn replay_all() -> [u64; COUNTS] {
             &mut sizes,
             &mut said,
             &mut counts,
-        );
+        )?;
     }
-    counts
+    Ok(counts)
 }
 
-fn main() {
-    let counts = replay_all();
-    report::table(&counts);
+fn main(rt: HostRuntime) -> io::Result<()> {
+    let counts = replay_all(rt)?;
+    report::table(rt, &counts)
 }

@@ -2,7 +2,7 @@
 ghost use Rattle.std.specs.Prelude.{◌+◌, ◌<◌, ◌≤◌};
 
 use crate::text;
-use libc::STDOUT_FILENO;
+use std::io;
 
 // Calls of each letter; lines that make none; lines that are neither; answers of each case; of each refusal's number; lines as the Rust's; with a change that was noticed.
 pub(crate) const COUNTS: usize = 46;
@@ -108,30 +108,37 @@ pub(crate) fn are_few(counts: &[u64; COUNTS]) -> bool {
 
 // ---- printing
 
-pub(crate) fn say(s: &[u8]) {
-    io::write_all(STDOUT_FILENO, s);
+pub(crate) fn say(rt: HostRuntime, s: &[u8]) -> io::Result<()> {
+    rt.write_all(s)
 }
 
-pub(crate) fn say_number(n: u64) {
-    io::print_decimal(STDOUT_FILENO, n);
+pub(crate) fn say_number(rt: HostRuntime, n: u64) -> io::Result<()> {
+    print!(rt; "{n}")
 }
 
-fn cell(names: &[u8], i: usize, count: u64) {
-    say(b" ");
-    say(text::token(names, i));
-    say(b"=");
-    say_number(count);
+fn cell(rt: HostRuntime, names: &[u8], i: usize, count: u64) -> io::Result<()> {
+    say(rt, b" ")?;
+    say(rt, text::token(names, i))?;
+    say(rt, b"=")?;
+    say_number(rt, count)
 }
 
 // A name and a count for each of n.
-fn row(title: &[u8], names: &[u8], counts: &[u64; COUNTS], from: usize, n: usize)
+fn row(
+    rt: HostRuntime,
+    title: &[u8],
+    names: &[u8],
+    counts: &[u64; COUNTS],
+    from: usize,
+    n: usize,
+) -> io::Result<()>
     requires { from + n ≤ 46 }
 {
-    say(title);
+    say(rt, title)?;
     for i in 0..n {
-        cell(names, i, counts[from + i]);
+        cell(rt, names, i, counts[from + i])?;
     }
-    say(b"\n");
+    say(rt, b"\n")
 }
 
 fn is_all(counts: &[u64; COUNTS], total: u64) -> bool {
@@ -144,28 +151,33 @@ fn is_all(counts: &[u64; COUNTS], total: u64) -> bool {
     std::num::wrapping_add_u64(counts[NOTICED], counts[SETTING]) == total
 }
 
-fn verdict(holds: bool) {
+fn verdict(rt: HostRuntime, holds: bool) -> io::Result<()> {
     if holds {
-        say(b"all as the Rust's\n");
+        say(rt, b"all as the Rust's\n")
     } else {
-        say(b"NOT all as the Rust's\n");
+        say(rt, b"NOT all as the Rust's\n")
     }
 }
 
-pub(crate) fn table(counts: &[u64; COUNTS]) {
-    row(b"calls:", &LETTERS, counts, 0, 11);
-    row(b"answers:", &CASES, counts, CASE, 7);
-    row(b"refusals:", &NUMBERS, counts, NUMBER, 24);
+// How many lines there were, and what they came to.
+fn sums(rt: HostRuntime, counts: &[u64; COUNTS], total: u64) -> io::Result<()> {
+    say_number(rt, total)?;
+    say(rt, b" lines, ")?;
+    say_number(rt, counts[SAME])?;
+    say(rt, b" as the Rust's, ")?;
+    say_number(rt, counts[NOTICED])?;
+    say(rt, b" noticed with a character changed, ")?;
+    say_number(rt, counts[SETTING])?;
+    say(rt, b" that alter or lend, ")?;
+    say_number(rt, counts[OTHER])?;
+    say(rt, b" of no call\n")
+}
+
+pub(crate) fn table(rt: HostRuntime, counts: &[u64; COUNTS]) -> io::Result<()> {
+    row(rt, b"calls:", &LETTERS, counts, 0, 11)?;
+    row(rt, b"answers:", &CASES, counts, CASE, 7)?;
+    row(rt, b"refusals:", &NUMBERS, counts, NUMBER, 24)?;
     let total = lines(counts);
-    say_number(total);
-    say(b" lines, ");
-    say_number(counts[SAME]);
-    say(b" as the Rust's, ");
-    say_number(counts[NOTICED]);
-    say(b" noticed with a character changed, ");
-    say_number(counts[SETTING]);
-    say(b" that alter or lend, ");
-    say_number(counts[OTHER]);
-    say(b" of no call\n");
-    verdict(is_all(counts, total));
+    sums(rt, counts, total)?;
+    verdict(rt, is_all(counts, total))
 }

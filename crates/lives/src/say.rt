@@ -21,17 +21,30 @@ fn text(said: &mut [u8; ROOM], from: usize, s: &[u8]) -> usize {
     at
 }
 
-// The first k of the digits.
-fn digits(said: &mut [u8; ROOM], at: usize, spelt: &[u8; 20], k: usize) -> usize {
-    text(said, at, bodies::field(spelt, 0, 0, k))
+// The digits from index at on.
+fn digits(said: &mut [u8; ROOM], from: usize, spelt: &[u8; 20], at: usize) -> usize {
+    text(said, from, bodies::field(spelt, at, 0, 20))
+}
+
+// The number's digits in decimal, at the end of spelt: 64 bits have 20 at most. The index where they start.
+fn decimal(n: u64, spelt: &mut [u8; 20]) -> usize {
+    let mut rest = n;
+    for i in 0..20usize {
+        spelt[19 - i] = (rest % 10) as u8 + b'0';
+        rest /= 10;
+        if rest == 0 {
+            return 19 - i;
+        }
+    }
+    0
 }
 
 // A number in decimal, after a byte: a space, or a list's comma.
 pub(crate) fn number_after(said: &mut [u8; ROOM], at: usize, before: u8, n: u64) -> usize {
     let mut spelt = [0u8; 20];
-    let k = io::decimal(n, &mut spelt);
+    let first = decimal(n, &mut spelt);
     let next = put(said, at, before);
-    digits(said, next, &spelt, k)
+    digits(said, next, &spelt, first)
 }
 
 pub(crate) fn number(said: &mut [u8; ROOM], at: usize, n: u64) -> usize {

@@ -1,9 +1,8 @@
 // A line's tokens, and what they say: numbers in decimal, bytes in hexadecimal. Every function takes any line: a token that is not there
 // is empty.
 ghost use Rattle.std.specs.Prelude.{◌≡◌, ◌+◌, ◌-◌, ◌*◌, ◌/◌, ◌%◌, ◌≤◌, min, length, drop, nat_lt};
-ghost use Rattle.io.specs.Counts.{IsPrefixLen};
 ghost use Rattle.serialize.specs.Runs.{splice, zeros, alike};
-ghost use Rattle.lives.specs.Text.{word, after_word, past, token_of, digit_of, all_below, with_digit, value_from, pair_of, unhex, bytes_of};
+ghost use Rattle.lives.specs.Text.{IsPrefixLen, word, after_word, past, token_of, digit_of, all_below, with_digit, value_from, pair_of, unhex, bytes_of};
 
 // ---- tokens
 

@@ -1,5 +1,5 @@
 -- What digits say: tests, numbers and bytes, digit after digit.
-use Rattle.std.proofs.Common.{◌≡◌, ℕ, zero, suc, ◌+◌, ◌-◌, ◌*◌, ◌/◌, ◌<◌, ◌≤◌, min, Bool, true, false, ltb, List, [], ◌∷◌, length, get_or, drop, sym, refl, ap, ◌∙◌, ap₂, arith, drop_of_length-le, get_or-drop}
+use Rattle.std.proofs.Common.{◌≡◌, ℕ, zero, suc, ◌+◌, ◌-◌, ◌*◌, ◌/◌, ◌<◌, ◌≤◌, min, true, ltb, List, length, get_or, drop, sym, refl, ap, ◌∙◌, ap₂, arith, drop_of_length-le, get_or-drop}
 use Rattle.serialize.specs.Runs.{part, splice, both}
 use Rattle.serialize.proofs.Lists.{part_splice_same}
 use Rattle.replay.proofs.Spaced.{cons_at}

@@ -5,7 +5,8 @@
 
 ghost use Rattle.std.specs.Prelude.{◌<◌, ◌≤◌};
 
-use libc::STDOUT_FILENO;
+use std::io;
+use std::io::{Read, Stdin};
 
 mod change;
 mod heads;
@@ -127,24 +128,35 @@ fn feed(read: &[u8], line: &mut [u8], used: usize, counts: &mut [u64; COUNTS]) -
 }
 
 // A proved loop has to end, and nothing says that the input does: no run uses its turns up.
-fn read_all(space: &mut [u8], line: &mut [u8], counts: &mut [u64; COUNTS]) -> usize {
+fn read_all(
+    input: &mut Stdin,
+    space: &mut [u8],
+    line: &mut [u8],
+    counts: &mut [u64; COUNTS],
+) -> io::Result<usize> {
     let mut used: usize = 0;
     for _ in 0..u64::MAX {
-        let n = io::read_full(0, space);
+        let n = input.read(space)?;
         if n == 0 {
-            return used;
+            return Ok(used);
         }
         used = feed(bodies::field(space, 0, 0, n), line, used, counts);
     }
-    used
+    Ok(used)
 }
 
 // The file's lines; what no line's end follows is of no call.
-fn replay_all(space: &mut [u8], line: &mut [u8], counts: &mut [u64; COUNTS]) {
-    let left = read_all(space, line, counts);
+fn replay_all(
+    input: &mut Stdin,
+    space: &mut [u8],
+    line: &mut [u8],
+    counts: &mut [u64; COUNTS],
+) -> io::Result<()> {
+    let left = read_all(input, space, line, counts)?;
     if left > 0 {
         add(counts, 10, 1);
     }
+    Ok(())
 }
 
 // ---- the table
@@ -159,39 +171,39 @@ fn total(counts: &[u64; COUNTS], from: usize) -> u64
     sum
 }
 
-fn say(text: &[u8]) {
-    io::write_all(STDOUT_FILENO, text);
+fn say(rt: HostRuntime, text: &[u8]) -> io::Result<()> {
+    rt.write_all(text)
 }
 
-fn figures(lines: u64, same: u64, noticed: u64) {
-    say(b": ");
-    io::print_decimal(STDOUT_FILENO, lines);
-    say(b" lines, ");
-    io::print_decimal(STDOUT_FILENO, same);
-    say(b" as the Rust, ");
-    io::print_decimal(STDOUT_FILENO, noticed);
-    say(b" noticed with a digit changed\n");
+fn figures(rt: HostRuntime, lines: u64, same: u64, noticed: u64) -> io::Result<()> {
+    println!(rt; ": {lines} lines, {same} as the Rust, {noticed} noticed with a digit changed")
 }
 
-fn row(call: usize, counts: &[u64; COUNTS])
+fn row(rt: HostRuntime, call: usize, counts: &[u64; COUNTS]) -> io::Result<()>
     requires { call < 10 }
 {
-    say(text::token(bodies::field(&NAMES, 10 * call, 0, 10), 0));
-    figures(counts[call], counts[11 + call], counts[22 + call]);
+    say(rt, text::token(bodies::field(&NAMES, 10 * call, 0, 10), 0))?;
+    figures(rt, counts[call], counts[11 + call], counts[22 + call])
 }
 
-fn rows(counts: &[u64; COUNTS]) {
+fn rows(rt: HostRuntime, counts: &[u64; COUNTS]) -> io::Result<()> {
     for call in 0..10usize {
-        row(call, counts);
+        row(rt, call, counts)?;
     }
+    Ok(())
 }
 
-fn main() {
+fn main(rt: HostRuntime) -> io::Result<()> {
     let mut counts = [0u64; COUNTS];
-    let mut space = io::large_buffer();
+    let mut space = [0u8; 65536];
     let mut line = [0u8; 16384];
-    replay_all(&mut space, &mut line, &mut counts);
-    rows(&counts);
-    say(b"all");
-    figures(total(&counts, 0), total(&counts, 11), total(&counts, 22));
+    replay_all(&mut rt.stdin(), &mut space, &mut line, &mut counts)?;
+    rows(rt, &counts)?;
+    say(rt, b"all")?;
+    figures(
+        rt,
+        total(&counts, 0),
+        total(&counts, 11),
+        total(&counts, 22),
+    )
 }

@@ -1,8 +1,7 @@
 // A line's tokens, and what they say in hexadecimal. Every function takes any line: a token that is not there is empty.
 ghost use Rattle.std.specs.Prelude.{◌≡◌, ◌+◌, ◌-◌, ◌*◌, ◌/◌, ◌%◌, ◌≤◌, min, not, length, drop, ◌==◌, nat_lt};
-ghost use Rattle.io.specs.Counts.{IsPrefixLen};
 ghost use Rattle.serialize.specs.Runs.{part, splice, zeros, alike};
-ghost use Rattle.replay.specs.Text.{word, after_word, past, token_of, is_none, digit_of, all_hex, with_digit, value_from, number_of, pair_of, unhex, bytes_of};
+ghost use Rattle.replay.specs.Text.{IsPrefixLen, word, after_word, past, token_of, is_none, digit_of, all_hex, with_digit, value_from, number_of, pair_of, unhex, bytes_of};
 
 // More bytes than a line of 16,000 characters can hold.
 pub(crate) const ROOM: usize = 8192;

@@ -1,5 +1,5 @@
 -- What is left decides.
-use Rattle.std.proofs.Common.{◌+◌, ◌-◌, Bool, drop, sym, refl, ap, ◌∙◌, arith, rules}
+use Rattle.std.proofs.Common.{◌+◌, Bool, drop, sym, refl, ap, ◌∙◌, arith, rules}
 use Rattle.serialize.specs.Runs.{both}
 use Rattle.lives.specs.Text.{all_below}
 use Rattle.lives.proofs.Hex.{below_at, below_end}

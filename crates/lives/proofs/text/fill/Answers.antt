@@ -1,5 +1,5 @@
 -- The bytes so far stand at the start.
-use Rattle.std.proofs.Common.{◌-◌, sym, ◌∙◌, zero-add, arith}
+use Rattle.std.proofs.Common.{sym, ◌∙◌, zero-add, arith}
 use Rattle.serialize.proofs.Loops.{fill_start, fill_turn, fill_end}
 use Rattle.lives.specs.Text.{unhex}
 use Rattle.lives.proofs.Hex.{length_unhex, unhex_at}

@@ -1,5 +1,5 @@
 -- The number so far, and what is left of the digits.
-use Rattle.std.proofs.Common.{ℕ, ◌+◌, ◌-◌, drop, sym, refl, ap, ◌∙◌, arith, rules}
+use Rattle.std.proofs.Common.{ℕ, ◌+◌, drop, sym, refl, ap, ◌∙◌, arith, rules}
 use Rattle.lives.specs.Text.{value_from}
 use Rattle.lives.proofs.Hex.{value_at, value_end}
 use Rattle.lives.proofs.text.value.Goals as goal

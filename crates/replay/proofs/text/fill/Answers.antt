@@ -1,5 +1,5 @@
 -- The bytes so far stand from index at on.
-use Rattle.std.proofs.Common.{◌-◌, sym, ◌∙◌, arith}
+use Rattle.std.proofs.Common.{sym, ◌∙◌, arith}
 use Rattle.serialize.proofs.Loops.{fill_start, fill_turn, fill_end}
 use Rattle.replay.specs.Text.{unhex}
 use Rattle.replay.proofs.Hex.{length_unhex, unhex_at}

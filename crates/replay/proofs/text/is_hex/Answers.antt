@@ -1,5 +1,5 @@
 -- What is left decides.
-use Rattle.std.proofs.Common.{◌+◌, ◌-◌, Bool, drop, sym, refl, ap, ◌∙◌, arith, rules}
+use Rattle.std.proofs.Common.{◌+◌, Bool, drop, sym, refl, ap, ◌∙◌, arith, rules}
 use Rattle.serialize.specs.Runs.{both}
 use Rattle.replay.specs.Text.{all_hex}
 use Rattle.replay.proofs.Hex.{hex_at, hex_end}

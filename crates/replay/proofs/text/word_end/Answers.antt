@@ -1,5 +1,5 @@
 -- A space ends the word, and so does the line.
-use Rattle.std.proofs.Common.{◌-◌, refl, arith, rules}
+use Rattle.std.proofs.Common.{refl, arith, rules}
 use Rattle.replay.proofs.Spaced.{word_ends, word_goes_on, word_none}
 use Rattle.replay.proofs.text.word_end.Goals as goal
 

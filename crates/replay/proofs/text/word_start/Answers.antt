@@ -1,5 +1,5 @@
 -- What is left of the line, word after word.
-use Rattle.std.proofs.Common.{◌≡◌, ℕ, ◌-◌, sym, refl, ap, ◌∙◌, add-one, arith, rules}
+use Rattle.std.proofs.Common.{◌≡◌, ℕ, sym, refl, ap, ◌∙◌, add-one, arith, rules}
 use Rattle.replay.specs.Text.{past, after_word}
 use Rattle.replay.proofs.text.word_start.Goals as goal
 

@@ -1,5 +1,5 @@
 -- Lists of different lengths differ; of the same length the words passed are equal: a difference is found, or all are.
-use Rattle.std.proofs.Common.{◌≡◌, ◌-◌, sym, ap, ◌∙◌, arith, ext_get_or, rules, below_more}
+use Rattle.std.proofs.Common.{◌≡◌, sym, ap, ◌∙◌, arith, ext_get_or, rules, below_more}
 use Rattle.serialize.specs.Runs.{alike}
 use Rattle.serialize.proofs.Lists.{alike_refl, alike_lengths, alike_differ}
 use Rattle.replay.proofs.words.same.Goals as goal
