@@ -15,7 +15,6 @@ use Rattle.bodies.specs.declared.TypeRead.{TypeRead}
 use Rattle.bodies.specs.declared.TypeRead.TheVariants.{Known, Invalid}
 use Rattle.bodies.specs.declared.Packet.{Packet}
 use Rattle.bodies.specs.Kinds.{type_of}
-use Rattle.bodies.specs.Tokens.{token}
 use Rattle.asks.specs.declared.Ask.{Ask}
 use Rattle.asks.specs.declared.PrivateKey.{PrivateKey}
 use Rattle.encode.specs.declared.Encoded.{Encoded}

@@ -8,7 +8,6 @@ use mathlib.Core.List.{List}
 use lib.ListN.{length}
 use lib.Dec.{eqb}
 use borrow.Author.Tests.{eqb-true}
-use Rattle.serialize.specs.declared.Found.TheVariants.{At}
 use Rattle.serialize.specs.Choice.{pick}
 use Rattle.replay_protection.specs.Replay.{refusal}
 use Rattle.replay_protection.specs.Ours.{width}
@@ -31,7 +30,7 @@ use Rattle.server.specs.State.{with_ask}
 use Rattle.server.specs.Ready.{call_refusal, both_refusal}
 use Rattle.server.proofs.Inversions.{neither, call_free, both_shaped}
 use Rattle.turns.specs.declared.Turn.{Turn}
-use Rattle.turns.specs.Outcomes.{State, state, Outcome, came, leaves, refuses, refused}
+use Rattle.turns.specs.Outcomes.{State, state, Outcome, came, refuses, refused}
 use Rattle.arrivals.specs.declared.Sender.{Sender}
 use Rattle.arrivals.specs.declared.Sender.TheVariants.{Connected, Pending, Unknown}
 use Rattle.arrivals.specs.Requests.{token_asked, request_read}

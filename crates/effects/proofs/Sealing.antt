@@ -2,7 +2,7 @@
 -- keep-alive moves the record that was on its way to its slot; no other seal changes what is seen, and a no ends the record on its way.
 use mathlib.Core.Path.{◌≡◌, refl, sym, ap, ◌∙◌}
 use mathlib.Core.Bool.{Bool, true, false}
-use Prim.Native.Nat.{ℕ, ◌+◌, ◌-◌, ◌<◌}
+use Prim.Native.Nat.{ℕ, ◌+◌, ◌<◌}
 use native.Mathlib.Omega.{arith}
 use mathlib.Core.List.{List}
 use lib.ListN.{length, set, length-replicate}
@@ -37,7 +37,7 @@ use Rattle.server.specs.State.{with_ask, with_counters}
 use Rattle.server.specs.Held.{held_user_data}
 use Rattle.server.specs.Ready.{kind_of, goal_misfits, seal_misfits, misfits, both_refusal}
 use Rattle.server.proofs.Inversions.{both_shaped, answer_fits}
-use Rattle.turns.specs.Outcomes.{State, state, came, leaves, refuses, closed, spent, from_slot}
+use Rattle.turns.specs.Outcomes.{State, came, leaves, refuses, closed, spent, from_slot}
 use Rattle.seals.specs.Waits.{newcomer, by_place, by_same, sent_under, connected}
 use Rattle.seals.specs.Seals.{unsealed, packet_asked, connects, sends, sealed, by_stage, seal_refusal, seals}
 use Rattle.views.specs.Views as views

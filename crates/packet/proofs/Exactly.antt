@@ -13,7 +13,7 @@ use Rattle.serialize.specs.Choice.{pick}
 use Rattle.serialize.specs.Runs.{part}
 use Rattle.serialize.proofs.Choice.{by_test}
 use Rattle.serialize.proofs.Lists.{length_part}
-use Rattle.replay_protection.specs.Replay.{refusal_by, refuses, refusal}
+use Rattle.replay_protection.specs.Replay.{refusal_by, refuses}
 use Rattle.replay_protection.specs.Ours.{width, window_of}
 use Rattle.bodies.specs.declared.PacketType.{PacketType}
 use Rattle.bodies.specs.declared.Packet.{Packet}

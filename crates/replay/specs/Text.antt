@@ -62,6 +62,6 @@ unhex (suc n) w = pair_of (slice_index w 0) (slice_index w 1) ∷ unhex n (drop 
 abbrev pub bytes_of : ℕ → List ℕ → List ℕ
 bytes_of room w = unhex (min (length w / 2) room) w
 
--- n bytes fill the start of a list; the second part follows from the first, and spares a caller's `&buf[..n]` a proof
+-- a list has n bytes at its start, and those are as many as are taken
 abbrev pub IsPrefixLen : ℕ → List ℕ → Type 0
 IsPrefixLen n xs = (n ≤ length xs) × (n ≡ length (take n xs))

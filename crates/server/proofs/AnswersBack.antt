@@ -6,7 +6,7 @@ use lib.ListN.{get_or}
 use lib.Dec.{eqb}
 use Rattle.serialize.specs.Choice.{pick}
 use Rattle.addresses.specs.declared.Address.{Address}
-use Rattle.addresses.specs.Addresses.{of_words, first_word}
+use Rattle.addresses.specs.Addresses.{of_words}
 use Rattle.addresses.proofs.Meaning.{words_read_back}
 use Rattle.server.specs.declared.Answer.{Answer}
 use Rattle.server.specs.declared.Answer.TheVariants.{Refused, Nothing, Ask, PacketToSend, Payload, ClientConnected, ClientDisconnected}

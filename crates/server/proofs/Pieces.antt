@@ -9,7 +9,6 @@ use Rattle.serialize.specs.Le.{of_le, to_le}
 use Rattle.serialize.proofs.Lists.{length_part, length_splice, part_whole, part_left, part_right, splice_whole, splice_zeros, splice_then, part_splice_same, part_splice_before, part_splice_after}
 use Rattle.serialize.proofs.Le.{length_to_le, of_le_to_le}
 use Rattle.asks.specs.declared.Ask as packet
-use Rattle.server.specs.declared.Ask.{Ask}
 use Rattle.server.specs.declared.Buffer.{Buffer}
 use Rattle.server.specs.Asking.{ask, buffer_of, asked}
 use Rattle.server.specs.Held.{held_token, held_challenge, held_id, held_expiry, held_timeout, held_send_key, held_receive_key, held_user_data}

@@ -10,7 +10,7 @@ use Rattle.serialize.specs.declared.Found.{Found}
 use Rattle.serialize.specs.Choice.{pick}
 use Rattle.addresses.specs.declared.Address.{Address}
 use Rattle.addresses.specs.Addresses.{refusal}
-use Rattle.places.specs.Layout.{count, places_refusal}
+use Rattle.places.specs.Layout.{places_refusal}
 use Rattle.entries.specs.Layout.{entries_refusal}
 use Rattle.entries.specs.Finds.{done, add_entry}
 use Rattle.table_calls.specs.Calls.{Told, told, bit_of, found_as, shaped, entry_of, outcome_told}

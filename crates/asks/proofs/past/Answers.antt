@@ -1,6 +1,6 @@
 -- A test by subtraction is the test by the sum.
 use mathlib.Core.Path.{sym}
-use Prim.Native.Nat.{◌+◌, ◌-◌}
+use Prim.Native.Nat.{◌+◌}
 use native.Mathlib.Omega.{arith}
 use borrow.Author.Tests.{lt-ltb}
 use Rattle.asks.proofs.Lent.{past_by}

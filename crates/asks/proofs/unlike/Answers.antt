@@ -1,6 +1,5 @@
 -- The two tests of the definition.
 use mathlib.Core.Path.{◌∙◌}
-use Prim.Native.Nat.{◌-◌}
 use borrow.Author.Tests.{eq-eqb, ne_eqb}
 use Rattle.asks.proofs.unlike.Goals as goal
 

@@ -1,6 +1,5 @@
 -- No address before place i is ours, so the search goes on from there.
 use mathlib.Core.Path.{sym, ap, ◌∙◌}
-use Prim.Native.Nat.{◌-◌}
 use borrow.Author.Rules.{rules}
 use Rattle.serialize.specs.Search.{first_from}
 use Rattle.serialize.proofs.Search.{scan_start, scan_hit, scan_miss, scan_end}

@@ -1,6 +1,5 @@
 -- Each number is a case of the definition.
 use mathlib.Core.Path.{sym, ap}
-use Prim.Native.Nat.{◌-◌}
 use borrow.Author.Tests.{ne_eqb}
 use native.Mathlib.Omega.{arith}
 use Rattle.serialize.specs.Choice.{pick}

@@ -1,5 +1,4 @@
 -- The one test of the definition.
-use Prim.Native.Nat.{◌-◌}
 use native.Mathlib.Omega.{arith}
 use borrow.Author.Tests.{lt-ltb, le-ltb}
 use Rattle.serialize.specs.Choice.{pick}

@@ -1,6 +1,5 @@
 -- The two numbers are fields of the body.
 use mathlib.Core.Path.{ap₂, ◌∙◌}
-use Prim.Native.Nat.{◌-◌}
 use native.Mathlib.Omega.{arith}
 use Rattle.bodies.specs.declared.Packet.TheVariants.{KeepAlive}
 use Rattle.bodies.proofs.Fields.{field_at, first_at}

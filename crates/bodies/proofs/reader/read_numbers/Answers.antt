@@ -1,6 +1,6 @@
 -- Each type is a case of the definition.
 use mathlib.Core.Path.{ap, ◌∙◌}
-use Prim.Native.Nat.{◌-◌, ◌≤◌}
+use Prim.Native.Nat.{◌≤◌}
 use native.Mathlib.Omega.{arith}
 use Rattle.bodies.specs.declared.Packet.TheVariants.{Challenge, Response}
 use Rattle.bodies.proofs.Fields.{first_at}

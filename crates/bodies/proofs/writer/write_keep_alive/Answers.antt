@@ -1,5 +1,4 @@
 -- Two runs, one right after the other.
-use Prim.Native.Nat.{◌-◌}
 use Rattle.bodies.proofs.Fields.{keep_alive_written}
 use Rattle.bodies.proofs.writer.write_keep_alive.Goals as goal
 

@@ -1,5 +1,4 @@
 -- Four runs, each right after the one before it.
-use Prim.Native.Nat.{◌-◌}
 use Rattle.bodies.proofs.Fields.{request_written}
 use Rattle.bodies.proofs.writer.write_request.Goals as goal
 

@@ -1,13 +1,11 @@
 -- Each way out is a case of the definition.
 use mathlib.Core.Path.{ap, ap₂, ◌∙◌}
-use Prim.Native.Nat.{◌-◌}
 use native.Mathlib.Omega.{arith}
 use lib.ListN.{length}
 use Rattle.serialize.specs.Choice.{pick}
 use Rattle.asks.specs.declared.Ask.{Ask}
 use Rattle.decode.specs.declared.Decoding.TheVariants as decoding
 use Rattle.decode.specs.declared.Opening.TheVariants as opening
-use Rattle.asks.specs.Asks.{unlike}
 use Rattle.decode.specs.Decodes.{decoded_as, ended, answer_opened}
 use Rattle.asks.proofs.Lent.{told, like_means}
 use Rattle.decode.proofs.reading.answer_opened.Goals as goal

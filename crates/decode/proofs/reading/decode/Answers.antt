@@ -1,7 +1,6 @@
 -- The type says how it goes on.
 use mathlib.Core.Path.{sym, ap, ◌∙◌}
-use Prim.Native.Nat.{◌-◌}
-use Rattle.decode.specs.Decodes.{ended, by_kind, decode}
+use Rattle.decode.specs.Decodes.{by_kind, decode}
 use Rattle.decode.proofs.Ways.{typed_long}
 use Rattle.decode.proofs.reading.decode.Goals as goal
 

@@ -1,13 +1,12 @@
 -- Each way out is a case of the definition.
 use mathlib.Core.Path.{ap, ◌∙◌}
-use Prim.Native.Nat.{◌-◌}
 use borrow.Author.Tests.{eq-eqb, ne_eqb}
 use lib.ListN.{length}
 use Rattle.serialize.specs.Choice.{pick}
 use Rattle.asks.specs.declared.Ask.{Ask}
 use Rattle.decode.specs.declared.Decoding.TheVariants as decoding
 use Rattle.decode.specs.declared.Opening.TheVariants as opening
-use Rattle.decode.specs.Decodes.{decoded_as, ended, decode_at}
+use Rattle.decode.specs.Decodes.{decoded_as, decode_at}
 use Rattle.asks.proofs.Lent.{told}
 use Rattle.decode.proofs.reading.decode_at.Goals as goal
 

@@ -1,7 +1,6 @@
 -- The head says how it goes on.
 use mathlib.Core.Path.{sym, ap, ◌∙◌}
-use Prim.Native.Nat.{◌-◌}
-use Rattle.decode.specs.Decodes.{ended, by_start}
+use Rattle.decode.specs.Decodes.{by_start}
 use Rattle.decode.proofs.reading.decode_keyed.Goals as goal
 
 pub returns-in-Refused : goal.returns-in-Refused

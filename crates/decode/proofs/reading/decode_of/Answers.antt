@@ -1,6 +1,5 @@
 -- A request is read, every other packet is sealed.
 use mathlib.Core.Path.{ap, ◌∙◌}
-use Prim.Native.Nat.{◌-◌}
 use native.Mathlib.Omega.{arith}
 use Rattle.serialize.specs.Choice.{pick}
 use Rattle.decode.specs.declared.Decoding.{Decoding}

@@ -1,8 +1,7 @@
 -- The one test of the definition.
 use mathlib.Core.Path.{◌∙◌}
-use Prim.Native.Nat.{◌-◌}
 use Rattle.serialize.specs.Choice.{pick}
-use Rattle.decode.specs.Decodes.{ended, decode_sealed}
+use Rattle.decode.specs.Decodes.{decode_sealed}
 use Rattle.decode.proofs.reading.decode_sealed.Goals as goal
 
 pub returns-then-private_key : goal.returns-then-private_key

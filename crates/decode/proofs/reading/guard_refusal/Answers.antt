@@ -1,6 +1,5 @@
 -- The one test of the definition.
 use mathlib.Core.Path.{◌∙◌}
-use Prim.Native.Nat.{◌-◌}
 use Rattle.serialize.specs.Choice.{pick}
 use Rattle.decode.specs.Decodes.{guard_refusal}
 use Rattle.asks.proofs.Lent.{told}

@@ -1,6 +1,5 @@
 -- The two tests of the definition.
 use mathlib.Core.Path.{◌∙◌}
-use Prim.Native.Nat.{◌-◌}
 use Rattle.decode.proofs.reading.is_guarded.Goals as goal
 
 pub returns-then-given : goal.returns-then-given

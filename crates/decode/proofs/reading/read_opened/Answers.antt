@@ -1,6 +1,5 @@
 -- A body is whole, or short.
 use mathlib.Core.Path.{sym, ap, ◌∙◌}
-use Prim.Native.Nat.{◌-◌}
 use native.Mathlib.Omega.{arith}
 use Rattle.decode.specs.Decodes.{by_body, read_opened}
 use Rattle.decode.proofs.reading.read_opened.Goals as goal

@@ -1,6 +1,6 @@
 -- The one test of the definition.
 use mathlib.Core.Path.{ap, ap₂, ◌∙◌}
-use Prim.Native.Nat.{ℕ, ◌+◌, ◌-◌}
+use Prim.Native.Nat.{ℕ, ◌+◌}
 use native.Mathlib.Omega.{arith}
 use borrow.Author.Tests.{lt-ltb, le-ltb}
 use Rattle.serialize.specs.Choice.{pick}

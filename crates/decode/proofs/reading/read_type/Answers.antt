@@ -1,6 +1,5 @@
 -- Each way out is a case of the definition.
 use mathlib.Core.Path.{sym, ap, ◌∙◌}
-use Prim.Native.Nat.{◌-◌}
 use borrow.Author.Tests.{lt-ltb, le-ltb}
 use lib.ListN.{length}
 use Rattle.serialize.specs.Choice.{pick}

@@ -1,6 +1,6 @@
 -- Each way out is a case of the definition.
 use mathlib.Core.Path.{◌∙◌}
-use Prim.Native.Nat.{◌+◌, ◌-◌, ◌^◌}
+use Prim.Native.Nat.{◌+◌, ◌^◌}
 use native.Mathlib.Omega.{arith}
 use borrow.Author.Tests.{lt-leb, le-leb}
 use Rattle.serialize.specs.Choice.{pick}

@@ -1,7 +1,5 @@
 -- An ask is open, or none is.
 use mathlib.Core.Path.{◌∙◌}
-use Prim.Native.Nat.{◌-◌}
-use Rattle.decode.specs.Challenges.{unproved}
 use Rattle.decode.proofs.token.answer_challenge.Goals as goal
 
 pub returns-in-Closed : goal.returns-in-Closed

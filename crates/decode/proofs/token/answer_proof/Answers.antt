@@ -1,14 +1,12 @@
 -- Each way out is a case of the definition.
 use mathlib.Core.Path.{ap₂, ◌∙◌}
-use Prim.Native.Nat.{◌-◌}
 use native.Mathlib.Omega.{arith}
 use lib.ListN.{length}
 use Rattle.serialize.specs.Choice.{pick}
 use Rattle.asks.specs.declared.Ask.{Ask}
 use Rattle.decode.specs.declared.Proving.TheVariants as proving
 use Rattle.decode.specs.declared.ProofOpening.TheVariants as proof
-use Rattle.asks.specs.Asks.{unlike}
-use Rattle.decode.specs.Challenges.{challenged_as, unproved, answer_proof}
+use Rattle.decode.specs.Challenges.{challenged_as, answer_proof}
 use Rattle.asks.proofs.Lent.{told, like_means}
 use Rattle.decode.proofs.token.answer_proof.Goals as goal
 

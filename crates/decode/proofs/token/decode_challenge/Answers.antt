@@ -1,13 +1,13 @@
 -- Each way out is a case of the definition.
 use mathlib.Core.Path.{ap₂, ◌∙◌}
-use Prim.Native.Nat.{◌+◌, ◌-◌, ◌≤◌}
+use Prim.Native.Nat.{◌+◌, ◌≤◌}
 use borrow.Author.Tests.{ltb-false}
 use lib.ListN.{length}
 use Rattle.serialize.specs.Choice.{pick}
 use Rattle.asks.specs.declared.Ask.{Ask}
 use Rattle.decode.specs.declared.Proving.TheVariants as proving
 use Rattle.decode.specs.declared.ProofOpening.TheVariants as proof
-use Rattle.decode.specs.Challenges.{challenged_as, unproved, decode_challenge}
+use Rattle.decode.specs.Challenges.{challenged_as, decode_challenge}
 use Rattle.asks.proofs.Lent.{told}
 use borrow.Author.Rules.{rules}
 use Rattle.decode.proofs.token.decode_challenge.Goals as goal

@@ -1,6 +1,6 @@
 -- Refused and unchanged, or the token and the ask.
 use mathlib.Core.Path.{refl, ap, ap₂, ◌∙◌}
-use Prim.Native.Nat.{◌+◌, ◌-◌, ◌≤◌}
+use Prim.Native.Nat.{◌+◌, ◌≤◌}
 use native.Mathlib.Omega.{arith}
 use borrow.Author.Tests.{ltb-false}
 use lib.ListN.{length}

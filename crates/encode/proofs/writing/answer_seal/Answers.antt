@@ -1,6 +1,5 @@
 -- An ask is open, or none is.
 use mathlib.Core.Path.{◌∙◌}
-use Prim.Native.Nat.{◌-◌}
 use Rattle.encode.proofs.writing.answer_seal.Goals as goal
 
 pub returns-in-Closed : goal.returns-in-Closed

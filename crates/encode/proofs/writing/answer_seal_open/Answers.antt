@@ -1,8 +1,6 @@
 -- Each way out is a case of the definition.
 use mathlib.Core.Path.{◌∙◌}
-use Prim.Native.Nat.{◌-◌}
 use Rattle.serialize.specs.Choice.{pick}
-use Rattle.asks.specs.Asks.{unlike}
 use Rattle.encode.specs.Encodes.{answer_seal_open}
 use Rattle.asks.proofs.Lent.{told}
 use Rattle.encode.proofs.writing.answer_seal_open.Goals as goal

@@ -1,10 +1,9 @@
 -- The fewest bytes of a sequence are at most eight.
 use mathlib.Core.Path.{◌≡◌, ap, ◌∙◌}
-use Prim.Native.Nat.{ℕ, ◌+◌, ◌-◌, ◌≤◌}
+use Prim.Native.Nat.{ℕ, ◌+◌, ◌≤◌}
 use native.Mathlib.Omega.{arith}
 use Rattle.prefix.specs.Head.{fewest}
 use Rattle.prefix.proofs.Fewest.{fewest_le}
-use Rattle.encode.specs.Encodes.{shown}
 use borrow.Author.Rules.{rules}
 use Rattle.encode.proofs.writing.body_at.Goals as goal
 

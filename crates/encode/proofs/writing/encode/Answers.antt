@@ -1,5 +1,4 @@
 -- Refused and unchanged, or head and body and what follows from them.
-use Prim.Native.Nat.{◌-◌}
 use native.Mathlib.Omega.{arith}
 use lib.ListN.{length}
 use Rattle.asks.proofs.Lent.{told}

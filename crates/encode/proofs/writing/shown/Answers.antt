@@ -1,5 +1,4 @@
 -- The one test of the definition.
-use Prim.Native.Nat.{◌-◌}
 use Rattle.serialize.specs.Choice.{pick}
 use Rattle.encode.specs.Encodes.{shown}
 use Rattle.asks.proofs.Lent.{told}

@@ -1,5 +1,4 @@
 -- The one test of the definition.
-use Prim.Native.Nat.{◌-◌}
 use native.Mathlib.Omega.{arith}
 use Rattle.serialize.specs.Choice.{pick}
 use Rattle.encode.specs.Encodes.{tag_places}

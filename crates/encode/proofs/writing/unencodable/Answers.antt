@@ -1,7 +1,5 @@
 -- Each way out is a case of the definition.
-use Prim.Native.Nat.{◌-◌}
 use native.Mathlib.Omega.{arith}
-use Rattle.bodies.specs.Bodies.{wants}
 use Rattle.asks.proofs.Lent.{told}
 use Rattle.encode.proofs.Ways.{lacks_key, lacks_room, lacks_bytes, lacks_nothing}
 use Rattle.encode.proofs.writing.unencodable.Goals as goal

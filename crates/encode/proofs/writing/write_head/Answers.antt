@@ -1,6 +1,6 @@
 -- Prefix byte, then the fewest bytes of the sequence.
 use mathlib.Core.Path.{ap, ◌∙◌}
-use Prim.Native.Nat.{ℕ, ◌+◌, ◌-◌}
+use Prim.Native.Nat.{ℕ, ◌+◌}
 use lib.ListN.{length-set}
 use Rattle.prefix.specs.Head.{fewest}
 use Rattle.encode.proofs.Ways.{head_written}

@@ -1,5 +1,4 @@
 -- A request is whole, every other packet asks.
-use Prim.Native.Nat.{◌-◌}
 use native.Mathlib.Omega.{arith}
 use Rattle.asks.proofs.Lent.{told}
 use Rattle.encode.proofs.Ways.{written_whole, written_asked}

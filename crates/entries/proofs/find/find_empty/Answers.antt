@@ -1,6 +1,5 @@
 -- No place before i is empty, so the search goes on from there.
 use mathlib.Core.Path.{sym, ◌∙◌}
-use Prim.Native.Nat.{◌-◌}
 use borrow.Author.Rules.{rules}
 use Rattle.serialize.proofs.Search.{scan_start, scan_hit, scan_miss, scan_end}
 use Rattle.entries.specs.Finds.{empty_at}

@@ -1,6 +1,5 @@
 -- The best so far is the first with the lowest time of the places passed.
 use mathlib.Core.Path.{◌≡◌, refl, ap, ◌∙◌}
-use Prim.Native.Nat.{◌-◌}
 use native.Mathlib.Omega.{arith}
 use borrow.Author.Rules.{rules}
 use Rattle.entries.specs.Finds.{oldest_below}

@@ -1,6 +1,5 @@
 -- A walk up the marks: the count so far is that of the places passed.
 use mathlib.Core.Path.{◌≡◌, ap, ◌∙◌}
-use Prim.Native.Nat.{◌-◌}
 use native.Mathlib.Omega.{arith}
 use Rattle.places.specs.Finds.{used_count}
 use Rattle.places.proofs.Counted.{count_start, count_turn}

@@ -1,6 +1,6 @@
 -- A walk up the places: what is left of it finds what the whole finds.
 use mathlib.Core.Path.{◌≡◌, sym, ap, ◌∙◌}
-use Prim.Native.Nat.{ℕ, ◌-◌}
+use Prim.Native.Nat.{ℕ}
 use Rattle.serialize.specs.Search.{first_from}
 use Rattle.serialize.proofs.Search.{scan_start, scan_hit, scan_miss, scan_end}
 use mathlib.Core.List.{List}

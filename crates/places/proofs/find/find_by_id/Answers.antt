@@ -1,8 +1,6 @@
 -- A walk up the places: what is left of it finds what the whole finds.
 use mathlib.Core.Path.{sym, ◌∙◌}
-use Prim.Native.Nat.{◌-◌}
 use Rattle.serialize.proofs.Search.{scan_start, scan_hit, scan_miss, scan_end}
-use Rattle.places.specs.Finds.{has_id}
 use borrow.Author.Rules.{rules}
 use Rattle.places.proofs.find.find_by_id.Goals as goal
 

@@ -1,6 +1,5 @@
 -- A walk up the marks: what is left of it finds what the whole finds.
 use mathlib.Core.Path.{sym, ◌∙◌}
-use Prim.Native.Nat.{◌-◌}
 use borrow.Author.Tests.{eq-eqb, ne_eqb}
 use Rattle.serialize.proofs.Search.{scan_start, scan_hit, scan_miss, scan_end}
 use borrow.Author.Rules.{rules}

@@ -1,5 +1,4 @@
 -- After i turns the first i places are put, and k is the index after them.
-use Prim.Native.Nat.{◌-◌}
 use borrow.Author.Rules.{rules}
 use Rattle.queries.proofs.Filled.{put_start, put_room, put_turn, put_end}
 use Rattle.queries.proofs.lists.fill_used.Goals as goal

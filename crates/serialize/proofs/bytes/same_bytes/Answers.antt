@@ -1,6 +1,5 @@
 -- The elements passed are equal: a difference is found, or all are.
 use mathlib.Core.Path.{◌≡◌, sym, ap, ◌∙◌}
-use Prim.Native.Nat.{◌-◌}
 use native.Mathlib.Omega.{arith}
 use borrow.Author.Count.{below_more}
 use Rattle.serialize.specs.Runs.{part, alike}

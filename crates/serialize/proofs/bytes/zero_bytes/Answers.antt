@@ -1,5 +1,4 @@
 -- After k turns k zeros are written.
-use Prim.Native.Nat.{◌-◌}
 use Rattle.serialize.specs.Runs.{zeros}
 use Rattle.serialize.proofs.Loops.{fill_start, zero_turn, zero_end}
 use Rattle.serialize.proofs.bytes.zero_bytes.Goals as goal

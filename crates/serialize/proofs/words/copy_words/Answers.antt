@@ -1,5 +1,4 @@
 -- After i turns the first i elements of the part are written.
-use Prim.Native.Nat.{◌-◌}
 use Rattle.serialize.specs.Runs.{part}
 use Rattle.serialize.proofs.Loops.{fill_start, copy_turn, copy_end}
 use Rattle.serialize.proofs.words.copy_words.Goals as goal

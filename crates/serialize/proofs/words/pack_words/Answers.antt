@@ -1,5 +1,4 @@
 -- After i turns the first i words are written.
-use Prim.Native.Nat.{◌-◌}
 use lib.ListN.{drop}
 use Rattle.serialize.specs.Le.{words}
 use Rattle.serialize.proofs.Loops.{fill_start, pack_turn, pack_end}

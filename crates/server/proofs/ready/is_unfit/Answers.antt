@@ -1,6 +1,6 @@
 -- Each way out is a case of the definition, by the tests that led there.
 use borrow.Author.Tests.{eq-eqb, ne_eqb}
-use Rattle.server.specs.Ready.{misfits, unfit}
+use Rattle.server.specs.Ready.{unfit}
 use borrow.Author.Tests.{ne_eqb}
 use Rattle.server.specs.Ready.{unfit}
 use Rattle.server.proofs.ready.is_unfit.Goals as goal

@@ -1,5 +1,5 @@
 -- Each arm is a case of the definition.
-use Rattle.server.specs.Ready.{misplaced, misfits}
+use Rattle.server.specs.Ready.{misfits}
 use Rattle.server.proofs.ready.misfits.Goals as goal
 
 pub returns-in-Idle : goal.returns-in-Idle

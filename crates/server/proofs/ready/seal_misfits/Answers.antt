@@ -1,5 +1,5 @@
 -- Each way out is a case of the definition, by the tests that led there.
-use Rattle.server.specs.Ready.{overrun, seal_misfits}
+use Rattle.server.specs.Ready.{seal_misfits}
 use Rattle.server.proofs.ready.seal_misfits.Goals as goal
 
 pub returns-then-goal_misfits : goal.returns-then-goal_misfits

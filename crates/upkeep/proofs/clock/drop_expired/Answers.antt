@@ -1,5 +1,4 @@
 -- After i turns the first i marks are new.
-use Prim.Native.Nat.{◌-◌}
 use native.Mathlib.Omega.{arith}
 use Rattle.upkeep.proofs.Marks.{drop_start, drop_turn, drop_end, half_length, half_shaped}
 use Rattle.upkeep.proofs.clock.drop_expired.Goals as goal

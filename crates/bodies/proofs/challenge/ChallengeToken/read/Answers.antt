@@ -1,6 +1,6 @@
 -- The two fields stand where the definition reads them.
 use mathlib.Core.Path.{◌≡◌, ap₂, ◌∙◌}
-use Prim.Native.Nat.{◌+◌, ◌-◌}
+use Prim.Native.Nat.{◌+◌}
 use native.Mathlib.Omega.{arith}
 use lib.ListN.{length}
 use Rattle.serialize.specs.Runs.{part, zeros}
