@@ -57,7 +57,7 @@ goal_leaves (ChallengeToken a) j = false
 goal_leaves (ChallengePacket a) j = false
 goal_leaves (Connecting place slot) j = eqb place j
 goal_leaves (Sending slot) j = false
-goal_leaves (Ending id a) j = false
+goal_leaves (Ending client a) j = false
 
 abbrev pub leaves : Stage → ℕ → Bool
 leaves Idle j = false
