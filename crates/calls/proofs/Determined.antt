@@ -8,7 +8,7 @@ use Rattle.calls.proofs.desk.challenged_desk.Reads as challenged-desk
 use Rattle.calls.proofs.desk.decoded_desk.Reads as decoded-desk
 use Rattle.calls.proofs.desk.encoded_desk.Reads as encoded-desk
 use Rattle.calls.proofs.desk.kept_on.Reads as kept_on
-use Rattle.calls.proofs.desk.opening_of.Reads as Opening-of
+use Rattle.calls.proofs.desk.opening_of.Reads as opening-of
 use Rattle.calls.proofs.desk.packet_of.Reads as packet-of
 use Rattle.calls.proofs.desk.proof_opening_of.Reads as proof-opening-of
 use Rattle.calls.proofs.desk.refused_desk.Reads as refused-desk
@@ -59,7 +59,7 @@ packet_of_determined κs a x y e f p q = coincide p q
 pub decoded_desk_determined : (κs : _) (a : _) (x y : _) (e f : _) → decoded-desk.Post κs a x e → decoded-desk.Post κs a y f → x ≡ y
 decoded_desk_determined κs a x y e f p q = coincide p q
 
-pub opening_of_determined : (κs : _) (a : _) (x y : _) (e f : _) → Opening-of.Post κs a x e → Opening-of.Post κs a y f → x ≡ y
+pub opening_of_determined : (κs : _) (a : _) (x y : _) (e f : _) → opening-of.Post κs a x e → opening-of.Post κs a y f → x ≡ y
 opening_of_determined κs a x y e f p q = coincide p q
 
 pub challenged_desk_determined : (κs : _) (a : _) (x y : _) (e f : _) → challenged-desk.Post κs a x e → challenged-desk.Post κs a y f → x ≡ y

@@ -64,7 +64,7 @@ part_ext l m a b n f g h =
 
 -- ---- bounds of the elements
 
--- what the checker knows of a slice's elements, c.slice-known.given or c.shared-slice-known.given
+-- what the checker knows of a slice's elements, `c.type_inv.NAME` in an answer
 pub known_below : {w : Width} (l : List ℕ) → ((i : ℕ) → Fits w (get_or l i 0)) → Below (2 ^ bits w) l
 known_below l h i = (h i).fits
 

@@ -20,11 +20,11 @@ use Rattle.server.proofs.asking.no_ask.Reads as no-ask
 use Rattle.server.proofs.asking.packet_ask.Reads as packet-ask
 use Rattle.server.proofs.asking.private_token_ask.Reads as private-token-ask
 use Rattle.server.proofs.held.held_client_id.Reads as held-client-id
-use Rattle.server.proofs.held.held_expiry.Reads as held_expiry_lem
-use Rattle.server.proofs.held.held_timeout.Reads as held_timeout_lem
-use Rattle.server.proofs.held.held_send_key.Reads as held_send_key_lem
-use Rattle.server.proofs.held.held_receive_key.Reads as held_receive_key_lem
-use Rattle.server.proofs.held.held_user_data.Reads as held_user_data_lem
+use Rattle.server.proofs.held.held_expiry.Reads as held-expiry
+use Rattle.server.proofs.held.held_timeout.Reads as held-timeout
+use Rattle.server.proofs.held.held_send_key.Reads as held-send-key
+use Rattle.server.proofs.held.held_receive_key.Reads as held-receive-key
+use Rattle.server.proofs.held.held_user_data.Reads as held-user-data
 use Rattle.server.proofs.held.hold_token.Reads as hold-token
 use Rattle.server.proofs.held.hold_challenge.Reads as hold-challenge
 
@@ -79,19 +79,19 @@ private_token_ask_determined κs a x y e f p q = coincide p q
 pub held_client_id_determined : (κs : _) (a : _) (x y : _) (e f : _) → held-client-id.Post κs a x e → held-client-id.Post κs a y f → x ≡ y
 held_client_id_determined κs a x y e f p q = coincide p q
 
-pub held_expiry_determined : (κs : _) (a : _) (x y : _) (e f : _) → held_expiry_lem.Post κs a x e → held_expiry_lem.Post κs a y f → x ≡ y
+pub held_expiry_determined : (κs : _) (a : _) (x y : _) (e f : _) → held-expiry.Post κs a x e → held-expiry.Post κs a y f → x ≡ y
 held_expiry_determined κs a x y e f p q = coincide p q
 
-pub held_timeout_determined : (κs : _) (a : _) (x y : _) (e f : _) → held_timeout_lem.Post κs a x e → held_timeout_lem.Post κs a y f → x ≡ y
+pub held_timeout_determined : (κs : _) (a : _) (x y : _) (e f : _) → held-timeout.Post κs a x e → held-timeout.Post κs a y f → x ≡ y
 held_timeout_determined κs a x y e f p q = coincide p q
 
-pub held_send_key_determined : (κs : _) (a : _) (x y : _) (e f : _) → held_send_key_lem.Post κs a x e → held_send_key_lem.Post κs a y f → x ≡ y
+pub held_send_key_determined : (κs : _) (a : _) (x y : _) (e f : _) → held-send-key.Post κs a x e → held-send-key.Post κs a y f → x ≡ y
 held_send_key_determined κs a x y e f p q = coincide p q
 
-pub held_receive_key_determined : (κs : _) (a : _) (x y : _) (e f : _) → held_receive_key_lem.Post κs a x e → held_receive_key_lem.Post κs a y f → x ≡ y
+pub held_receive_key_determined : (κs : _) (a : _) (x y : _) (e f : _) → held-receive-key.Post κs a x e → held-receive-key.Post κs a y f → x ≡ y
 held_receive_key_determined κs a x y e f p q = coincide p q
 
-pub held_user_data_determined : (κs : _) (a : _) (x y : _) (e f : _) → held_user_data_lem.Post κs a x e → held_user_data_lem.Post κs a y f → x ≡ y
+pub held_user_data_determined : (κs : _) (a : _) (x y : _) (e f : _) → held-user-data.Post κs a x e → held-user-data.Post κs a y f → x ≡ y
 held_user_data_determined κs a x y e f p q = coincide p q
 
 pub hold_token_determined : (κs : _) (a : _) (x y : _) (e f : _) → hold-token.Post κs a x e → hold-token.Post κs a y f → e.0.now ≡ f.0.now
