@@ -9,11 +9,11 @@ has_unproved() {
     [ -x "$unproved/bin/rattle-cases" ]
 }
 
-# FOLDER/libNAME.a of the source ROOT, over the crates in CRATES that are named after it.
-archive() { # FOLDER CRATES NAME ROOT DEP..
-    local folder=$1 crates=$2 name=$3 source=$4 dep
-    local words=(--crate-name "$name" --lib "std=$kit/libs/std/src/lib.rt")
-    for dep in "${@:5}"; do
+# FOLDER/libNAME.a of the crate NAME_c, over the crate NAME and those in CRATES that are named after it.
+archive() { # FOLDER CRATES NAME DEP..
+    local folder=$1 crates=$2 name=$3 source=$2/${3}_c/src/lib.rt dep
+    local words=(--crate-name "${name}_c" --lib "std=$kit/libs/std/src/lib.rt")
+    for dep in "${@:4}" "$name"; do
         words+=(--lib "$dep=$crates/$dep/src/lib.rt")
     done
     mkdir -p "$folder"
@@ -23,11 +23,11 @@ archive() { # FOLDER CRATES NAME ROOT DEP..
 # The three libraries of the comparison.
 archives_of() { # FOLDER CRATES
     local folder=$1 crates=$2
-    archive "$folder" "$crates" calls "$crates/calls/src/lib.rt" \
+    archive "$folder" "$crates" calls \
         serialize prefix replay_protection bodies asks encode decode &&
-        archive "$folder" "$crates" table_calls "$crates/table_calls/src/lib.rt" \
+        archive "$folder" "$crates" table_calls \
             serialize times addresses replay_protection entries places &&
-        archive "$folder" "$crates" netcode "$crates/netcode/src/lib.rt" \
+        archive "$folder" "$crates" netcode \
             serialize prefix replay_protection bodies asks encode decode times addresses entries places records server \
             upkeep queries turns arrivals opens grants seals sending
 }
