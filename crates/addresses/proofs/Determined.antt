@@ -5,7 +5,7 @@ use Rattle.serialize.proofs.Determined.{coincide}
 use Rattle.addresses.proofs.Address.new.Reads as new
 use Rattle.addresses.proofs.Address.bytes.Reads as bytes
 use Rattle.addresses.proofs.Address.refusal.Reads as refusal
-use Rattle.addresses.proofs.Address.same.Reads as same
+use Rattle.addresses.proofs.AddressPartialEq.eq.Reads as equals
 use Rattle.addresses.proofs.Address.first_word.Reads as first_word
 use Rattle.addresses.proofs.Address.from_words.Reads as from-words
 use Rattle.addresses.proofs.has_words.Reads as has_words
@@ -25,8 +25,8 @@ bytes_determined κs a x y e f p q = coincide p q
 pub refusal_determined : (κs : _) (a : _) (x y : _) (e f : _) → refusal.Post κs a x e → refusal.Post κs a y f → x ≡ y
 refusal_determined κs a x y e f p q = coincide p q
 
-pub same_determined : (κs : _) (a : _) (x y : _) (e f : _) → same.Post κs a x e → same.Post κs a y f → x ≡ y
-same_determined κs a x y e f p q = coincide p q
+pub equals_determined : (κs : _) (a : _) (x y : _) (e f : _) → equals.Post κs a x e → equals.Post κs a y f → x ≡ y
+equals_determined κs a x y e f p q = coincide p q
 
 pub first_word_determined : (κs : _) (a : _) (x y : _) (e f : _) → first_word.Post κs a x e → first_word.Post κs a y f → x ≡ y
 first_word_determined κs a x y e f p q = coincide p q

@@ -1,5 +1,6 @@
 -- What the definitions say of addresses, from the definitions alone: a chain of tests holds where each of them does, an address is its
 -- four numbers, which its words and its bytes keep, and a search finds one where there is one.
+use Rattle.std.specs.Prelude.{Option, Some, None}
 use mathlib.Core.Path.{◌≡◌, refl, sym, ap, ap₂, ◌∙◌}
 use mathlib.Core.Logic.{◌⊎◌, inl, inr, ⊎_elim, ◌↔◌}
 use mathlib.Core.Bool.{Bool, true, false, ◌&&◌, ◌||◌, true≢false, false≢true, and-eq-true_iff}
@@ -10,8 +11,6 @@ use native.Mathlib.Omega.{arith}
 use lib.ListN.{length, get_or}
 use lib.Dec.{eqb, ltb}
 use borrow.Author.Tests.{eq-eqb, eqb-true, lt-ltb, ltb-true, not-false}
-use Rattle.serialize.specs.declared.Found.{Found}
-use Rattle.serialize.specs.declared.Found.TheVariants.{At, Nothing}
 use Rattle.serialize.specs.Choice.{pick}
 use Rattle.serialize.specs.Runs.{part, zeros, Below}
 use Rattle.serialize.specs.Le.{of_le, to_le}
@@ -21,6 +20,7 @@ use Rattle.serialize.proofs.Lists.{length_part, part_add, part_whole, part_part,
 use Rattle.serialize.proofs.Le.{length_to_le, of_le_below, of_le_to_le, to_le_of_le, of_le_zeros, of_le_halves}
 use Rattle.serialize.proofs.Search.{found_lowest, found_none, none_found}
 use Rattle.addresses.specs.declared.Address.{Address}
+use Rattle.addresses.proofs.AddressPartialEq.eq.Reads as equals
 use Rattle.addresses.specs.Addresses.{address, of_bytes, to_bytes, well_formed, refusal, same, first_word, of_words, has_words, count, address_at, is_found, malformed_at, find_malformed, list_refusal, holds_at, is_ours, find_ours, any_ours}
 
 both_true : (a b : Bool) → (a && b) ≡ true → (a ≡ true) × (b ≡ true)
@@ -49,6 +49,14 @@ same_exactly a b = (
       (true_both _ _ (eq-eqb _ _ (ap (λ (x : Address). x.low) e))
       (eq-eqb _ _ (ap (λ (x : Address). x.high) e)))),
 )
+
+-- the code's `==` is this definition
+pub same_derived : (a b : Address) → (eqb a.kind b.kind && (eqb a.port b.port && (eqb a.low b.low && eqb a.high b.high))) ≡ same a b
+unfolding same
+same_derived a b = refl
+
+pub same_ensured : (κs : _) (a : _) (x : _) (e : _) → equals.Post κs a x e → x ≡ same a.0.now a.1.0.now
+same_ensured κs a x e p = p ∙ same_derived a.0.now a.1.0.now
 
 -- ---- words
 
@@ -157,15 +165,15 @@ four_exactly bytes n b =
 
 -- ---- lists
 
-found_at : (f : Found) → is_found f ≡ true → (i : ℕ) × (f ≡ At i)
+found_at : (f : Option ℕ) → is_found f ≡ true → (i : ℕ) × (f ≡ Some i)
 unfolding is_found
-found_at (At i) e = (i, refl)
-found_at Nothing e = absurd (false≢true e)
+found_at (Some i) e = (i, refl)
+found_at None e = absurd (false≢true e)
 
-found_nothing : (f : Found) → is_found f ≡ false → f ≡ Nothing
+found_nothing : (f : Option ℕ) → is_found f ≡ false → f ≡ None
 unfolding is_found
-found_nothing (At i) e = absurd (true≢false e)
-found_nothing Nothing e = refl
+found_nothing (Some i) e = absurd (true≢false e)
+found_nothing None e = refl
 
 taken : (b : Bool) → pick {A = ℕ} b 19 0 ≡ 0 → b ≡ false
 unfolding pick
@@ -177,13 +185,13 @@ module _ (list : List ℕ) where
   all_formed : list_refusal list ≡ 0 → (i : ℕ) → i < count list → malformed_at list i ≡ false
   unfolding list_refusal
   all_formed e i h =
-      let none : find_malformed list ≡ Nothing = found_nothing (find_malformed list) (taken (is_found (find_malformed list)) e) in
+      let none : find_malformed list ≡ None = found_nothing (find_malformed list) (taken (is_found (find_malformed list)) e) in
       found_none (malformed_at list) 0 (count list) none i (omega arith) (omega arith)
 
   formed_all : ((i : ℕ) → i < count list → malformed_at list i ≡ false) → list_refusal list ≡ 0
   unfolding list_refusal pick is_found
   formed_all h =
-      ap (λ (f : Found). pick (is_found f) 19 0) (none_found (malformed_at list) 0 (count list) (λ m a b. h m (omega arith)))
+      ap (λ (f : Option ℕ). pick (is_found f) 19 0) (none_found (malformed_at list) 0 (count list) (λ m a b. h m (omega arith)))
 
   pub list_refusal_exactly : (list_refusal list ≡ 0) ↔ ((i : ℕ) → i < count list → malformed_at list i ≡ false)
   list_refusal_exactly = (all_formed, formed_all)

@@ -1,5 +1,6 @@
 -- What a caller learns of a callee's answer decides its own: a number goes by a test, and two writes of eight bytes fill sixteen.
-use mathlib.Core.Path.{◌≡◌, sym, ap, ◌∙◌}
+use Rattle.std.specs.Prelude.{Option, Some, None, is_some}
+use mathlib.Core.Path.{◌≡◌, refl, sym, ap, ◌∙◌}
 use mathlib.Core.Bool.{Bool, true, false}
 use mathlib.Core.List.{List, ◌++◌}
 use Prim.Native.Nat.{ℕ, ◌+◌, ◌*◌}
@@ -8,8 +9,6 @@ use lib.ListN.{length, get_or, length-append}
 use Rattle.serialize.specs.Choice.{pick}
 use Rattle.serialize.specs.Runs.{splice}
 use Rattle.serialize.specs.Le.{to_le}
-use Rattle.serialize.specs.declared.Found.{Found}
-use Rattle.serialize.specs.declared.Found.TheVariants.{At, Nothing}
 use Rattle.serialize.proofs.Lists.{splice_then, splice_whole}
 use Rattle.serialize.proofs.Le.{length_to_le}
 use Rattle.addresses.specs.declared.Address.{Address}
@@ -33,38 +32,51 @@ module _ (a : Address) where
   unfolding refusal pick
   address_refused t = ap (λ (b : Bool). pick b 0 19) (sym t)
 
-module _ {f : Found} where
-  found_true : {i : ℕ} → f ≡ At i → is_found f ≡ true
+module _ {f : Option ℕ} where
+  found_true : {i : ℕ} → f ≡ Some i → is_found f ≡ true
   unfolding is_found
   found_true e = ap is_found e
 
-  found_false : f ≡ Nothing → is_found f ≡ false
+  found_false : f ≡ None → is_found f ≡ false
   unfolding is_found
   found_false e = ap is_found e
 
-module _ (list : List ℕ) where
-  pub list_refused : {i : ℕ} → find_malformed list ≡ At i → 19 ≡ list_refusal list
-  unfolding list_refusal pick
-  list_refused e = ap (λ (b : Bool). pick b 19 0) (sym (found_true e))
+-- the library's question whether something was found is the definition's
+pub some_found : (f : Option ℕ) → is_some f ≡ is_found f
+unfolding is_found
+some_found (Some i) = refl
+some_found None = refl
 
-  pub list_taken : find_malformed list ≡ Nothing → 0 ≡ list_refusal list
+module _ (list : List ℕ) where
+  -- as the code asks it
+  pub list_found : is_found (find_malformed list) ≡ true → 19 ≡ list_refusal list
   unfolding list_refusal pick
-  list_taken e = ap (λ (b : Bool). pick b 19 0) (sym (found_false e))
+  list_found e = ap (λ (b : Bool). pick b 19 0) (sym e)
+
+  pub list_unfound : is_found (find_malformed list) ≡ false → 0 ≡ list_refusal list
+  unfolding list_refusal pick
+  list_unfound e = ap (λ (b : Bool). pick b 19 0) (sym e)
+
+  pub list_refused : {i : ℕ} → find_malformed list ≡ Some i → 19 ≡ list_refusal list
+  list_refused e = list_found (found_true e)
+
+  pub list_taken : find_malformed list ≡ None → 0 ≡ list_refusal list
+  list_taken e = list_unfound (found_false e)
 
 module _ (list ours : List ℕ) where
   -- address i of the list, as the search for its words among ours answers
-  pub address_ours : (i : ℕ) {j : ℕ} → find_words ours (get_or list (3 * i) 0) (get_or list (3 * i + 1) 0) (get_or list (3 * i + 2) 0) ≡ At j → true ≡ is_ours list ours i
+  pub address_ours : (i : ℕ) {j : ℕ} → find_words ours (get_or list (3 * i) 0) (get_or list (3 * i + 1) 0) (get_or list (3 * i + 2) 0) ≡ Some j → true ≡ is_ours list ours i
   unfolding is_ours
   address_ours i e = sym (found_true e)
 
-  pub address_other : (i : ℕ) → find_words ours (get_or list (3 * i) 0) (get_or list (3 * i + 1) 0) (get_or list (3 * i + 2) 0) ≡ Nothing → false ≡ is_ours list ours i
+  pub address_other : (i : ℕ) → find_words ours (get_or list (3 * i) 0) (get_or list (3 * i + 1) 0) (get_or list (3 * i + 2) 0) ≡ None → false ≡ is_ours list ours i
   unfolding is_ours
   address_other i e = sym (found_false e)
 
-  pub some_ours : {i : ℕ} → find_ours list ours ≡ At i → true ≡ any_ours list ours
+  pub some_ours : {i : ℕ} → find_ours list ours ≡ Some i → true ≡ any_ours list ours
   unfolding any_ours
   some_ours e = sym (found_true e)
 
-  pub none_ours : find_ours list ours ≡ Nothing → false ≡ any_ours list ours
+  pub none_ours : find_ours list ours ≡ None → false ≡ any_ours list ours
   unfolding any_ours
   none_ours e = sym (found_false e)

@@ -1,8 +1,6 @@
 -- Addresses (document 01, "How the host answers": an address is kind 4 or 6, 16 bytes, port u16; kind 4 uses the first four bytes, the
 -- rest zero), and lists of them.
-use Rattle.std.specs.Prelude.{ℕ, ◌+◌, ◌*◌, ◌/◌, ◌%◌, ◌^◌, Bool, true, false, not, ◌&&◌, ◌||◌, List, [], ◌∷◌, ◌++◌, length, get_or, eqb, ltb}
-use Rattle.serialize.specs.declared.Found.{Found}
-use Rattle.serialize.specs.declared.Found.TheVariants.{At, Nothing}
+use Rattle.std.specs.Prelude.{ℕ, ◌+◌, ◌*◌, ◌/◌, ◌%◌, ◌^◌, Bool, true, false, not, ◌&&◌, ◌||◌, List, [], ◌∷◌, ◌++◌, length, get_or, eqb, ltb, Option, Some, None}
 use Rattle.serialize.specs.Choice.{pick}
 use Rattle.serialize.specs.Runs.{part}
 use Rattle.serialize.specs.Le.{of_le, to_le}
@@ -56,15 +54,15 @@ abbrev pub address_at : List ℕ → ℕ → Address
 address_at list i = of_words (get_or list (3 * i) 0) (get_or list (3 * i + 1) 0) (get_or list (3 * i + 2) 0)
 
 -- something was found
-unfoldable pub is_found : Found → Bool
-is_found (At i) = true
-is_found Nothing = false
+unfoldable pub is_found : Option ℕ → Bool
+is_found (Some i) = true
+is_found None = false
 
 -- address i of the list is malformed: a first word over 24 bits has no kind at all
 unfoldable pub malformed_at : List ℕ → ℕ → Bool
 malformed_at list i = not (well_formed (get_or list (3 * i) 0 / 65536) (get_or list (3 * i + 1) 0) (get_or list (3 * i + 2) 0))
 
-abbrev pub find_malformed : List ℕ → Found
+abbrev pub find_malformed : List ℕ → Option ℕ
 find_malformed list = first_from (malformed_at list) 0 (count list)
 
 -- document 01's 19; 0 where all are well-formed
@@ -75,14 +73,14 @@ list_refusal list = pick (is_found (find_malformed list)) 19 0
 abbrev pub holds_at : List ℕ → ℕ → ℕ → ℕ → ℕ → Bool
 holds_at list first low high i = has_words list (3 * i) first low high
 
-abbrev pub find_words : List ℕ → ℕ → ℕ → ℕ → Found
+abbrev pub find_words : List ℕ → ℕ → ℕ → ℕ → Option ℕ
 find_words list first low high = first_from (holds_at list first low high) 0 (count list)
 
 -- address i of the list is one of ours
 unfoldable pub is_ours : List ℕ → List ℕ → ℕ → Bool
 is_ours list ours i = is_found (find_words ours (get_or list (3 * i) 0) (get_or list (3 * i + 1) 0) (get_or list (3 * i + 2) 0))
 
-abbrev pub find_ours : List ℕ → List ℕ → Found
+abbrev pub find_ours : List ℕ → List ℕ → Option ℕ
 find_ours list ours = first_from (is_ours list ours) 0 (count list)
 
 -- document 01's 13 is given where this is false: some address of the list is ours

@@ -3,7 +3,10 @@
 #![tactic(auto)]
 
 ghost use Rattle.std.specs.Prelude.{◌≡◌, ◌+◌, ◌≤◌, length};
-ghost use Rattle.addresses.specs.Addresses.{first_word, of_words, of_bytes, to_bytes, well_formed, refusal, same, has_words};
+ghost use Rattle.refusal.specs.Verdicts.{verdict};
+ghost use Rattle.addresses.specs.Addresses.{first_word, of_words, of_bytes, to_bytes, well_formed, refusal, has_words};
+
+use refusal::{Refusal, Why};
 
 mod list;
 
@@ -12,7 +15,8 @@ pub use list::{address_at, any_ours, count_addresses, find_malformed, find_words
 // Words of an address in a table or a list: kind * 65,536 + port, then the 16 bytes as two little-endian words.
 pub const ADDRESS_WORDS: usize = 3;
 
-#[derive(Clone, Copy)]
+// Any kind is an input with an answer (19), so it is a number here.
+#[derive(Clone, Copy, PartialEq, Eq)]
 pub struct Address {
     pub kind: u8,
     pub port: u16,
@@ -58,30 +62,15 @@ impl Address {
         bytes
     }
 
-    // 19 for a malformed address, 0 for a well-formed one.
-    pub fn refusal(self) -> u8
-        ensures { result ≡ refusal self }
+    // A malformed address is refused.
+    pub fn refusal(self) -> Result<(), Refusal>
+        ensures { result ≡ verdict (refusal self) }
     {
         if is_well_formed(self.kind as u64, self.low, self.high) {
-            0
+            Ok(())
         } else {
-            19
+            Err(Refusal(Why::AddressMalformed))
         }
-    }
-
-    pub fn same(self, other: Address) -> bool
-        ensures { result ≡ same self other }
-    {
-        if self.kind != other.kind {
-            return false;
-        }
-        if self.port != other.port {
-            return false;
-        }
-        if self.low != other.low {
-            return false;
-        }
-        self.high == other.high
     }
 
     // The first of an address's three words; the others are `low` and `high`.
@@ -104,7 +93,7 @@ impl Address {
     }
 }
 
-// Whether the three words of t from index at are these.
+// Whether the three words of t from index at are these: words of a table, so that no value is made for a derived comparison.
 pub fn has_words(t: &[u64], at: usize, first: u64, low: u64, high: u64) -> bool
     requires { at + 3 ≤ length t.now }
     ensures { result ≡ has_words t.now at first low high }

@@ -1,4 +1,5 @@
 -- Each way out of a datagram's call is a case of its definition, by the tests and the callees' answers that led there.
+use Rattle.std.specs.Prelude.{Option, Some, None, Result, Ok, Err, IsErrAnd}
 use mathlib.Core.Path.{◌≡◌, sym, ap, ap₂, ◌∙◌}
 use mathlib.Core.Bool.{Bool, true, false, not}
 use Prim.Native.Nat.{ℕ, ◌+◌, ◌≤◌, ◌<◌}
@@ -7,8 +8,8 @@ use mathlib.Core.List.{List}
 use lib.ListN.{length, get_or}
 use lib.Dec.{eqb, ltb}
 use borrow.Author.Tests.{eq-eqb, ne_eqb, lt-ltb, le-ltb, le-leb, lt-leb, not-true, not-false}
-use Rattle.serialize.specs.declared.Found.{Found}
-use Rattle.serialize.specs.declared.Found.TheVariants.{At, Nothing}
+use Rattle.refusal.specs.Verdicts.{verdict}
+use Rattle.refusal.proofs.Laws.{refused_as, refused_some, refuses_as}
 use Rattle.serialize.specs.Choice.{pick}
 use Rattle.serialize.specs.Runs.{part, alike}
 use Rattle.prefix.specs.Sealed.{version}
@@ -26,10 +27,7 @@ use Rattle.places.specs.Layout.{Shaped, receive_key_at, received_at, window_plac
 use Rattle.places.specs.Finds.{find_address}
 use Rattle.places.proofs.Searches.{address_found}
 use Rattle.records.specs.Records.{bytes_at, put_time}
-use Rattle.decode.specs.declared.Kind.{Kind}
-use Rattle.decode.specs.declared.Kind.TheVariants as kindly
 use Rattle.decode.specs.declared.Start.{Start}
-use Rattle.decode.specs.declared.Start.TheVariants as starting
 use Rattle.decode.specs.Decodes.{type_at, start_at}
 use Rattle.decode.proofs.Ways.{typed_long}
 use Rattle.server.specs.declared.NetcodeServer.{NetcodeServer}
@@ -48,37 +46,52 @@ use Rattle.arrivals.specs.Senders.{waiting, sender, sender_of}
 use Rattle.arrivals.specs.Requests.{version_in, protocol_in, expiry_in, nonce_in, mac_low_in, mac_high_in, request_refusal, token_asked, request_read}
 use Rattle.arrivals.specs.Arrivals.{lent_refusal, arrival_refusal, window_refusal, open_asked, sealed_at, by_start, sealed_from, request_from, sender_in, kind_arrives, by_kind, arrives}
 
+-- ---- a refusal that is passed on
+
+-- what a `?` returns
+pub passed_up : {A : Type 0} (r : Result A ℕ) (n : ℕ) → IsErrAnd r (λ x. x ≡ n) → r ≡ Err n
+passed_up (Ok x) n h = absurd h
+passed_up (Err x) n h = ap (λ (k : ℕ). Err k) h
+
+-- x is what a test of the number d came to, and k the number of the whole
+module _ (d : ℕ) (x : Result (Unit {0}) ℕ) (tested : x ≡ verdict d) (r : ℕ) (is : x ≡ Err r) (k : ℕ) where
+  some : d ≡ 0 → ⊥
+  some z = refused_some d x tested r is (refused_as d x tested r is ∙ z)
+
+  pub passed_on : ((d ≡ 0 → ⊥) → d ≡ k) → Err r ≡ verdict k
+  passed_on f = refuses_as k r (refused_some d x tested r is) (refused_as d x tested r is ∙ f some)
+
 -- ---- who sends: r is what a search found
 
-module _ (f r : Found) (found : r ≡ f) where
-  pub waits_at : (j : ℕ) → r ≡ At j → Pending j ≡ waiting f
+module _ (f r : Option ℕ) (found : r ≡ f) where
+  pub waits_at : (j : ℕ) → r ≡ Some j → Pending j ≡ waiting f
   unfolding waiting
   waits_at j h = ap waiting (sym h ∙ found)
 
-  pub waits_nowhere : r ≡ Nothing → Unknown ≡ waiting f
+  pub waits_nowhere : r ≡ None → Unknown ≡ waiting f
   unfolding waiting
   waits_nowhere h = ap waiting (sym h ∙ found)
 
-  pub connected_at : (g : Found) (i : ℕ) → r ≡ At i → Connected i ≡ sender f g
+  pub connected_at : (g : Option ℕ) (i : ℕ) → r ≡ Some i → Connected i ≡ sender f g
   unfolding sender
-  connected_at g i h = ap (λ (x : Found). sender x g) (sym h ∙ found)
+  connected_at g i h = ap (λ (x : Option ℕ). sender x g) (sym h ∙ found)
 
-  pub not_connected : (g : Found) → r ≡ Nothing → (s : Sender) → s ≡ waiting g → s ≡ sender f g
+  pub not_connected : (g : Option ℕ) → r ≡ None → (s : Sender) → s ≡ waiting g → s ≡ sender f g
   unfolding sender
-  not_connected g h s e = e ∙ ap (λ (x : Found). sender x g) (sym h ∙ found)
+  not_connected g h s e = e ∙ ap (λ (x : Option ℕ). sender x g) (sym h ∙ found)
 
 -- and back: a connected sender is the slot that was found, a pending one the pending place
-pub slot_found : (f g : Found) (i : ℕ) → sender f g ≡ Connected i → f ≡ At i
+pub slot_found : (f g : Option ℕ) (i : ℕ) → sender f g ≡ Connected i → f ≡ Some i
 unfolding sender waiting
-slot_found (At k) g i h = let e : Connected k ≡ Connected i = h in cc
-slot_found Nothing (At j) i h = let e : Pending j ≡ Connected i = h in cc
-slot_found Nothing Nothing i h = let e : Unknown ≡ Connected i = h in cc
+slot_found (Some k) g i h = let e : Connected k ≡ Connected i = h in cc
+slot_found None (Some j) i h = let e : Pending j ≡ Connected i = h in cc
+slot_found None None i h = let e : Unknown ≡ Connected i = h in cc
 
-pub place_found : (f g : Found) (j : ℕ) → sender f g ≡ Pending j → g ≡ At j
+pub place_found : (f g : Option ℕ) (j : ℕ) → sender f g ≡ Pending j → g ≡ Some j
 unfolding sender waiting
-place_found (At i) g j h = let e : Connected i ≡ Pending j = h in cc
-place_found Nothing (At k) j h = let e : Pending k ≡ Pending j = h in cc
-place_found Nothing Nothing j h = let e : Unknown ≡ Pending j = h in cc
+place_found (Some i) g j h = let e : Connected i ≡ Pending j = h in cc
+place_found None (Some k) j h = let e : Pending k ≡ Pending j = h in cc
+place_found None None j h = let e : Unknown ≡ Pending j = h in cc
 
 module _ (slots : List ℕ) (n : ℕ) (pending : List ℕ) (m : ℕ) (addr : Address) where
   pub sender_slot : Shaped slots n → (i : ℕ) → sender_of slots n pending m addr ≡ Connected i → i < n
@@ -164,16 +177,16 @@ module _ (s : NetcodeServer) (table : List ℕ) (n : ℕ) (connected : Bool) (i 
         sealed_asks h r e = e ∙ simp (window_passes, sym fits ∙ h)
 
   -- a is what the head's reading gave
-  module _ (out : ℕ) (d : List ℕ) (a : Start) (headed : a ≡ start_at d) where
-    pub head_refused : (number : ℕ) → a ≡ starting.Refused number → (r : Turn) → r ≡ refused s number
+  module _ (out : ℕ) (d : List ℕ) (a : Result Start ℕ) (headed : a ≡ start_at d) where
+    pub head_refused : (number : ℕ) → a ≡ Err number → (r : Turn) → r ≡ refused s number
         → r ≡ by_start s table n connected i kind out d (start_at d)
     unfolding by_start
     head_refused number h r e = e ∙ ap (by_start s table n connected i kind out d) (sym h ∙ headed)
 
-    pub head_read : (sequence start : ℕ) → a ≡ starting.At sequence start → (r : Turn) → r ≡ sealed_at s table n connected i kind sequence start out d
+    pub head_read : (at : Start) → a ≡ Ok at → (r : Turn) → r ≡ sealed_at s table n connected i kind at.sequence at.start out d
         → r ≡ by_start s table n connected i kind out d (start_at d)
     unfolding by_start
-    head_read sequence start h r e = e ∙ ap (by_start s table n connected i kind out d) (sym h ∙ headed)
+    head_read at h r e = e ∙ ap (by_start s table n connected i kind out d) (sym h ∙ headed)
 
 -- ---- a request in clear
 
@@ -284,21 +297,21 @@ module _ (s : NetcodeServer) (slots pending : List ℕ) (addr : Address) (out : 
     arrival_stops n r e =
         ap (λ (x : Turn). came x slots pending) e ∙ ap (refuses t) tested ∙ simp (ne_eqb (arrival_refusal t addr out) 0 (λ z. n (tested ∙ z)))
 
-    module _ (free : q ≡ 0) (a : Kind) (typed : a ≡ type_at d) where
+    module _ (free : q ≡ 0) (a : Result PacketType ℕ) (typed : a ≡ type_at d) where
       type_decides : by_kind t addr out d a ≡ arrives t addr out d
       unfolding arrives pick
       type_decides = ap (by_kind t addr out d) typed ∙ simp (eq-eqb (arrival_refusal t addr out) 0 (sym tested ∙ free))
 
-      pub type_refused : (number : ℕ) → a ≡ kindly.Refused number → (r : Turn) → r ≡ refused s number → came r slots pending ≡ arrives t addr out d
+      pub type_refused : (number : ℕ) → a ≡ Err number → (r : Turn) → r ≡ refused s number → came r slots pending ≡ arrives t addr out d
       unfolding by_kind
       type_refused number h r e = ap (λ (x : Turn). came x slots pending) e ∙ ap (by_kind t addr out d) (sym h) ∙ type_decides
 
       -- a datagram of a known type has what its parts ask for
-      pub kind_ready : (kind : PacketType) → a ≡ kindly.Of kind → Shaped slots s.set.slots × Shaped pending s.set.pending × (18 ≤ length d)
+      pub kind_ready : (kind : PacketType) → a ≡ Ok kind → Shaped slots s.set.slots × Shaped pending s.set.pending × (18 ≤ length d)
       kind_ready kind h =
           let b = arrival_shaped s slots pending addr out (sym tested ∙ free) in
           (b.0, b.1, typed_long d kind (sym typed ∙ h))
 
-      pub type_known : (kind : PacketType) → a ≡ kindly.Of kind → (o : Outcome) → o ≡ kind_arrives t addr out d kind → o ≡ arrives t addr out d
+      pub type_known : (kind : PacketType) → a ≡ Ok kind → (o : Outcome) → o ≡ kind_arrives t addr out d kind → o ≡ arrives t addr out d
       unfolding by_kind
       type_known kind h o e = e ∙ ap (by_kind t addr out d) (sym h) ∙ type_decides

@@ -1,6 +1,6 @@
 -- A datagram (document 01, "When the server says no", the order for a datagram: 16, 23, 14 (reply buffer under 1,400), 19, 1, 2; type 0 then
 -- goes to the length test (9); others 3, 4, 5, 6, 7, open; "How a connection lives").
-use Rattle.std.specs.Prelude.{ℕ, ◌+◌, Bool, true, false, List, length, get_or, eqb, ltb}
+use Rattle.std.specs.Prelude.{ℕ, ◌+◌, Bool, true, false, List, length, get_or, eqb, ltb, Result, Ok, Err}
 use Rattle.serialize.specs.Choice.{pick}
 use Rattle.replay_protection.specs.Replay.{refusal}
 use Rattle.replay_protection.specs.Stored.{window_at}
@@ -13,10 +13,7 @@ use Rattle.addresses.specs.declared.Address.{Address}
 use Rattle.addresses.specs.Addresses as addresses
 use Rattle.places.specs.Layout.{receive_key_at, received_at, window_place}
 use Rattle.records.specs.Records.{bytes_at, put_time}
-use Rattle.decode.specs.declared.Kind.{Kind}
-use Rattle.decode.specs.declared.Kind.TheVariants as kindly
 use Rattle.decode.specs.declared.Start.{Start}
-use Rattle.decode.specs.declared.Start.TheVariants as starting
 use Rattle.decode.specs.Decodes.{type_at, start_at}
 use Rattle.server.specs.declared.NetcodeServer.{NetcodeServer}
 use Rattle.server.specs.declared.Answer.TheVariants.{Nothing}
@@ -60,9 +57,9 @@ sealed_at s table n connected i kind sequence start out d =
     (refused s (window_refusal table n i kind sequence))
 
 -- 4 by its head
-unfoldable pub by_start : NetcodeServer → List ℕ → ℕ → Bool → ℕ → PacketType → ℕ → List ℕ → Start → Turn
-by_start s table n connected i kind out d (starting.Refused number) = refused s number
-by_start s table n connected i kind out d (starting.At sequence start) = sealed_at s table n connected i kind sequence start out d
+unfoldable pub by_start : NetcodeServer → List ℕ → ℕ → Bool → ℕ → PacketType → ℕ → List ℕ → Result Start ℕ → Turn
+by_start s table n connected i kind out d (Ok at) = sealed_at s table n connected i kind at.sequence at.start out d
+by_start s table n connected i kind out d (Err number) = refused s number
 
 -- 3 where the sender is neither connected nor pending
 unfoldable pub sealed_from : State → ℕ → PacketType → List ℕ → Sender → Turn
@@ -93,9 +90,9 @@ kind_arrives t addr out d kind =
     (leaves t (sealed_from t out kind d (sender_in t addr)))
 
 -- 1, 2 by its type
-unfoldable pub by_kind : State → Address → ℕ → List ℕ → Kind → Outcome
-by_kind t addr out d (kindly.Refused number) = refuses t number
-by_kind t addr out d (kindly.Of kind) = kind_arrives t addr out d kind
+unfoldable pub by_kind : State → Address → ℕ → List ℕ → Result PacketType ℕ → Outcome
+by_kind t addr out d (Ok kind) = kind_arrives t addr out d kind
+by_kind t addr out d (Err number) = refuses t number
 
 -- a datagram d from an address, with an output of so many bytes
 unfoldable pub arrives : State → Address → ℕ → List ℕ → Outcome

@@ -2,13 +2,14 @@
 #![tactic(auto)]
 
 ghost use Rattle.std.specs.Prelude.{◌≡◌, ◌≤◌, length};
+ghost use Rattle.refusal.specs.Verdicts.{verdict};
 ghost use Rattle.places.specs.Layout.{Shaped};
 ghost use Rattle.turns.specs.Outcomes.{state, came};
 ghost use Rattle.arrivals.specs.Arrivals.{lent_refusal, arrival_refusal, kind_arrives, arrives};
 
 use addresses::Address;
 use bodies::PacketType;
-use decode::Kind;
+use refusal::{Refusal, Why};
 use server::NetcodeServer;
 use turns::{NETCODE_MAX_PACKET_BYTES, Turn};
 
@@ -28,11 +29,11 @@ pub enum Sender {
 const REQUEST_BYTES: usize = 1078;
 
 // 14, then 19.
-fn lent_refusal(addr: Address, out: usize) -> u8
-    ensures { result ≡ lent_refusal addr out }
+fn lent_refusal(addr: Address, out: usize) -> Result<(), Refusal>
+    ensures { result ≡ verdict (lent_refusal addr out) }
 {
     if out < NETCODE_MAX_PACKET_BYTES {
-        return 14;
+        return Err(Refusal(Why::OutputShort));
     }
     addr.refusal()
 }
@@ -44,16 +45,13 @@ fn arrival_refusal(
     slots: &[u64],
     pending: &[u64],
     out: usize,
-) -> u8
-    ensures { result ≡ arrival_refusal (state server slots.now pending.now) addr out }
+) -> Result<(), Refusal>
+    ensures { result ≡ verdict (arrival_refusal (state server slots.now pending.now) addr out) }
 {
     let set = server.set;
     let ask = server.ask;
     let tables = server::both_tables_refusal(set, slots.len(), pending.len());
-    let refusal = server::call_refusal(ask, tables);
-    if refusal != 0 {
-        return refusal;
-    }
+    server::call_refusal(ask, tables)?;
     lent_refusal(addr, out)
 }
 
@@ -72,7 +70,7 @@ fn process_kind(
 {
     if kind.is_request() {
         if datagram.len() < REQUEST_BYTES {
-            return turns::refused(server, 9);
+            return turns::refused(server, Refusal(Why::BodyShort));
         }
         return requests::process_request(server, addr, slots, pending, out, datagram);
     }
@@ -92,12 +90,11 @@ pub fn process_packet(
     ensures { came result slots.new pending.new ≡ arrives (state server slots.old pending.old) addr (length out.now) datagram.now }
 {
     let room = out.len();
-    let refusal = arrival_refusal(server, addr, slots, pending, room);
-    if refusal != 0 {
+    if let Err(refusal) = arrival_refusal(server, addr, slots, pending, room) {
         return turns::refused(server, refusal);
     }
     match decode::read_type(datagram) {
-        Kind::Refused(number) => turns::refused(server, number),
-        Kind::Of(kind) => process_kind(server, addr, slots, pending, room, datagram, kind),
+        Ok(kind) => process_kind(server, addr, slots, pending, room, datagram, kind),
+        Err(refusal) => turns::refused(server, refusal),
     }
 }

@@ -1,5 +1,6 @@
 // A request in clear: what it says, and the ask to open its private token.
 ghost use Rattle.std.specs.Prelude.{◌≡◌, ◌≤◌, length};
+ghost use Rattle.refusal.specs.Verdicts.{verdict};
 ghost use Rattle.places.specs.Layout.{Shaped};
 ghost use Rattle.turns.specs.Outcomes.{state, came};
 ghost use Rattle.arrivals.specs.Requests.{request_refusal, token_asked, request_read};
@@ -8,6 +9,7 @@ ghost use Rattle.arrivals.specs.Arrivals.{request_from, sender_in};
 use crate::{Sender, senders};
 use addresses::Address;
 use prefix::NETCODE_VERSION_INFO;
+use refusal::{Refusal, Why};
 use server::{Answer, NetcodeServer, Stage};
 use turns::Turn;
 
@@ -22,24 +24,24 @@ const XNONCE: usize = 30;
 
 const MAC: usize = 1062;
 
-// 10, 11, 12 by version, protocol and expiry, else 0.
-fn request_refusal(server: NetcodeServer, datagram: &[u8]) -> u8
+// 10, 11, 12 by version, protocol and expiry.
+fn request_refusal(server: NetcodeServer, datagram: &[u8]) -> Result<(), Refusal>
     requires { 1078 ≤ length datagram.now }
-    ensures { result ≡ request_refusal server datagram.now }
+    ensures { result ≡ verdict (request_refusal server datagram.now) }
 {
     let version = NETCODE_VERSION_INFO;
     if !serialize::same_bytes(datagram, VERSION, &version, 0, 13) {
-        return 10;
+        return Err(Refusal(Why::VersionWrong));
     }
     let set = server.set;
     if serialize::read_u64(datagram, PROTOCOL) != set.protocol_id {
-        return 11;
+        return Err(Refusal(Why::ProtocolWrong));
     }
     let now = server.current_time;
     if now.secs >= serialize::read_u64(datagram, EXPIRY) {
-        return 12;
+        return Err(Refusal(Why::Expired));
     }
-    0
+    Ok(())
 }
 
 fn ask_token(server: NetcodeServer, addr: Address, out: usize, datagram: &[u8]) -> Turn
@@ -49,7 +51,7 @@ fn ask_token(server: NetcodeServer, addr: Address, out: usize, datagram: &[u8]) 
     let set = server.set;
     let connect_key = set.connect_key;
     let mut xnonce = [0u8; 24];
-    serialize::copy_bytes(&mut xnonce, 0, datagram, XNONCE, 24);
+    serialize::copy(&mut xnonce, 0, datagram, XNONCE, 24);
     let expire_timestamp = serialize::read_u64(datagram, EXPIRY);
     let ask = server::private_token_ask(connect_key, set.protocol_id, expire_timestamp, &xnonce);
     let stage = Stage::Token {
@@ -65,8 +67,7 @@ fn read_request(server: NetcodeServer, addr: Address, out: usize, datagram: &[u8
     requires { 1078 ≤ length datagram.now }
     ensures { result ≡ request_read server addr out datagram.now }
 {
-    let refusal = request_refusal(server, datagram);
-    if refusal != 0 {
+    if let Err(refusal) = request_refusal(server, datagram) {
         return turns::refused(server, refusal);
     }
     ask_token(server, addr, out, datagram)

@@ -1,6 +1,7 @@
 // A sealed packet: the tests before it is opened, and the ask. No table is written.
 ghost use Rattle.std.specs.Prelude.{◌≡◌, ◌≤◌, ◌<◌, length};
 ghost use Rattle.decode.specs.Decodes.{start_at};
+ghost use Rattle.refusal.specs.Verdicts.{verdict};
 ghost use Rattle.places.specs.Layout.{Shaped};
 ghost use Rattle.turns.specs.Outcomes.{state};
 ghost use Rattle.arrivals.specs.Arrivals.{window_refusal, open_asked, sealed_at, by_start, sealed_from, sender_in};
@@ -10,18 +11,25 @@ use addresses::Address;
 use asks::{NETCODE_MAC_BYTES, Work};
 use bodies::PacketType;
 use decode::Start;
+use refusal::{Refusal, Why};
 use server::{NetcodeServer, Stage};
 use turns::Turn;
 
 // 5 or 6 by the record's window, for a windowed type alone.
-fn window_refusal(table: &[u64], n: usize, i: usize, kind: PacketType, sequence: u64) -> u8
+fn window_refusal(
+    table: &[u64],
+    n: usize,
+    i: usize,
+    kind: PacketType,
+    sequence: u64,
+) -> Result<(), Refusal>
     requires { Shaped table.now n × (i < n) }
-    ensures { result ≡ window_refusal table.now n i kind sequence }
+    ensures { result ≡ verdict (window_refusal table.now n i kind sequence) }
 {
     if kind.apply_replay_protection() {
         return records::window_refusal(table, n, i, sequence);
     }
-    0
+    Ok(())
 }
 
 // The ask to open what follows the sequence, under the record's receive key.
@@ -79,12 +87,11 @@ fn test_sealed(
     requires { Shaped table.now n × (i < n) × (18 ≤ length datagram.now) }
     ensures { result ≡ sealed_at server table.now n connected i kind sequence start out datagram.now }
 {
-    let refusal = window_refusal(table, n, i, kind, sequence);
-    if refusal != 0 {
+    if let Err(refusal) = window_refusal(table, n, i, kind, sequence) {
         return turns::refused(server, refusal);
     }
     if asks::past(datagram.len(), start, NETCODE_MAC_BYTES) {
-        return turns::refused(server, 7);
+        return turns::refused(server, Refusal(Why::TagMissing));
     }
     ask_open(
         server, table, n, connected, i, kind, sequence, start, out, datagram,
@@ -106,10 +113,10 @@ fn read_sealed(
     ensures { result ≡ by_start server table.now n connected i kind out datagram.now (start_at datagram.now) }
 {
     match decode::read_start(datagram) {
-        Start::Refused(number) => turns::refused(server, number),
-        Start::At { sequence, start } => test_sealed(
+        Ok(Start { sequence, start }) => test_sealed(
             server, table, n, connected, i, kind, sequence, start, out, datagram,
         ),
+        Err(refusal) => turns::refused(server, refusal),
     }
 }
 
@@ -132,6 +139,6 @@ pub fn process_sealed(
     match senders::find_sender(slots, n, pending, m, addr) {
         Sender::Connected(i) => { read_sealed(server, slots, n, true, i, kind, out, datagram) }
         Sender::Pending(j) => { read_sealed(server, pending, m, false, j, kind, out, datagram) }
-        Sender::Unknown => turns::refused(server, 3),
+        Sender::Unknown => turns::refused(server, Refusal(Why::Stranger)),
     }
 }

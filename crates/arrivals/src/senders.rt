@@ -6,15 +6,14 @@ ghost use Rattle.arrivals.specs.Senders.{sender_of, waiting};
 
 use crate::Sender;
 use addresses::Address;
-use serialize::Found;
 
 fn find_waiting(pending: &[u64], m: usize, addr: Address) -> Sender
     requires { Shaped pending.now m }
     ensures { result ≡ waiting (find_address pending.now m addr) }
 {
     match places::find_by_address(pending, m, addr) {
-        Found::At(j) => Sender::Pending(j),
-        Found::Nothing => Sender::Unknown,
+        Some(j) => Sender::Pending(j),
+        None => Sender::Unknown,
     }
 }
 
@@ -23,7 +22,7 @@ pub fn find_sender(slots: &[u64], n: usize, pending: &[u64], m: usize, addr: Add
     ensures { result ≡ sender_of slots.now n pending.now m addr }
 {
     match places::find_by_address(slots, n, addr) {
-        Found::At(i) => Sender::Connected(i),
-        Found::Nothing => find_waiting(pending, m, addr),
+        Some(i) => Sender::Connected(i),
+        None => find_waiting(pending, m, addr),
     }
 }

@@ -1,6 +1,6 @@
 -- What the host is asked for (document 01, "How the host answers": open or seal, with key, nonce, additional data and the part
 -- concerned; "Bytes on the wire": the packet nonce is the sequence, a challenge token has no additional data).
-use Rattle.std.specs.Prelude.{ℕ, ◌+◌, Bool, not, ◌||◌, List, eqb, ltb}
+use Rattle.std.specs.Prelude.{ℕ, ◌+◌, Bool, not, ◌||◌, List, eqb, ltb, Option, unwrap_or}
 use Rattle.serialize.specs.Runs.{zeros}
 use Rattle.prefix.specs.Sealed.{additional_data, packet_nonce}
 use Rattle.asks.specs.declared.Ask.{Ask}
@@ -22,6 +22,10 @@ packet_ask work key sequence prefix protocol start end = ask work key (packet_no
 -- a challenge token: its own sequence is the nonce
 abbrev pub token_ask : Work → List ℕ → ℕ → ℕ → ℕ → Ask
 token_ask work key sequence start end = ask work key (packet_nonce sequence) (zeros 22) 0 start end
+
+-- a key that may be missing: where it is, zeros stand for it, and are not looked at
+abbrev pub key_bytes : Option (List ℕ) → List ℕ
+key_bytes key = unwrap_or key (zeros 32)
 
 -- an answer lends the same buffers, and acts on its ask's place: 18 where room, the length that it lends, is not the ask's, or where
 -- the ask's buffer does not have the n bytes from at on that it speaks of

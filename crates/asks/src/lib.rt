@@ -28,13 +28,6 @@ pub struct Ask {
     pub end: usize,
 }
 
-// A key that may be missing.
-#[derive(Clone, Copy)]
-pub struct PrivateKey {
-    pub given: bool,
-    pub bytes: [u8; NETCODE_KEY_BYTES],
-}
-
 // Beside an answer that asks for nothing.
 pub fn no_ask() -> Ask
     ensures { result ≡ no_ask }
@@ -64,10 +57,7 @@ pub fn past(room: usize, at: usize, n: usize) -> bool
 pub fn unlike(at: usize, n: usize, len: usize, room: usize) -> bool
     ensures { result ≡ unlike at n len room }
 {
-    if room != len {
-        return true;
-    }
-    past(len, at, n)
+    room != len || past(len, at, n)
 }
 
 // The ask for a packet: the sequence is the nonce; version, protocol and prefix byte are the additional data.

@@ -1,4 +1,5 @@
 -- What is written reads back: a field of a body that was put together from fields is that field.
+use Rattle.std.specs.Prelude.{Result, Ok, Err}
 use mathlib.Core.Path.{◌≡◌, refl, sym, ap, ap₂, ◌∙◌}
 use Prim.Native.Nat.{ℕ, ◌+◌, ◌^◌, ◌≤◌, ◌<◌}
 use native.Mathlib.Omega.{arith}
@@ -16,10 +17,8 @@ use Rattle.serialize.proofs.Lists.{length_part, part_whole, part_left, part_righ
 use Rattle.serialize.proofs.Le.{length_to_le, of_le_to_le}
 use Rattle.bodies.specs.declared.PacketType.{PacketType}
 use Rattle.bodies.specs.declared.PacketType.TheVariants as kind
-use Rattle.bodies.specs.declared.TypeRead.TheVariants.{Known, Invalid}
 use Rattle.bodies.specs.declared.Packet.{Packet}
 use Rattle.bodies.specs.declared.Packet.TheVariants.{ConnectionRequest, ConnectionDenied, Challenge, Response, KeepAlive, Payload, Disconnect}
-use Rattle.bodies.specs.declared.Body.TheVariants.{Whole}
 use Rattle.bodies.specs.declared.challenge.ChallengeToken.{ChallengeToken}
 use Rattle.bodies.specs.Kinds.{number_of, type_of, is_request}
 use Rattle.bodies.specs.Tokens.{token, token_clear, token_at}
@@ -55,7 +54,7 @@ length_body Disconnect bytes w = refl
 -- ---- types
 
 -- a type's number gives back the type, and a number below 7 is that of its type
-pub type_reads_back : (k : PacketType) → type_of (number_of k) ≡ Known k
+pub type_reads_back : (k : PacketType) → type_of (number_of k) ≡ Ok k
 unfolding type_of pick
 type_reads_back kind.ConnectionRequest = refl
 type_reads_back kind.ConnectionDenied = refl
@@ -158,24 +157,24 @@ least_body kind.Payload n = omega arith
 least_body kind.Disconnect n = omega arith
 
 -- so a body that was written is read, as the same packet
-pub body_reads_back : (packet : Packet) (bytes : List ℕ) → Ranged packet → wants (kind_of packet) ≤ length bytes → read_body (kind_of packet) (body packet bytes) ≡ Whole packet
+pub body_reads_back : (packet : Packet) (bytes : List ℕ) → Ranged packet → wants (kind_of packet) ≤ length bytes → read_body (kind_of packet) (body packet bytes) ≡ Ok packet
 unfolding read_body pick
 body_reads_back packet bytes r w =
     let n : length (body packet bytes) ≡ body_length (kind_of packet) (length bytes) = length_body packet bytes w in
-    simp (le-ltb (length (body packet bytes)) (least (kind_of packet)) (omega (arith, least_body (kind_of packet) (length bytes)))) (ap Whole (numbers_read_back packet bytes r w))
+    simp (le-ltb (length (body packet bytes)) (least (kind_of packet)) (omega (arith, least_body (kind_of packet) (length bytes)))) (ap Ok (numbers_read_back packet bytes r w))
 
 -- ---- which numbers are types
 
 -- two known types are one, and none is unknown
-is : {n : ℕ} (i : ℕ) (a k : PacketType) → eqb n i ≡ true → Known a ≡ Known k → number_of a ≡ i → n ≡ number_of k
+is : {n : ℕ} (i : ℕ) (a k : PacketType) → eqb n i ≡ true → ◌≡◌ {A = Result PacketType ℕ} (Ok a) (Ok k) → number_of a ≡ i → n ≡ number_of k
 is {n} i a k e f g = let same : a ≡ k = cc in eqb-true n i e ∙ sym g ∙ ap number_of same
 
-no_type : (k : PacketType) → Invalid ≡ Known k → ⊥
+no_type : (k : PacketType) → ◌≡◌ {A = Result PacketType ℕ} (Err 2) (Ok k) → ⊥
 no_type k e = let z : ◌≡◌ {A = ℕ} 0 1 = cc in omega arith
 
 -- a number whose type is k is k's, and one without a type is over 6
 module _ (n : ℕ) where
-  pub typed_number : (k : PacketType) → type_of n ≡ Known k → n ≡ number_of k
+  pub typed_number : (k : PacketType) → type_of n ≡ Ok k → n ≡ number_of k
   unfolding type_of pick
   typed_number k h =
       by_test (eqb n 0) (λ e. is 0 kind.ConnectionRequest k e (simp e at h) refl) (λ e0.
@@ -190,7 +189,7 @@ module _ (n : ℕ) where
   above : (i : ℕ) → i ≤ n → n ≢ i → i + 1 ≤ n
   above i h d = omega arith
 
-  pub untyped_number : type_of n ≡ Invalid → 6 < n
+  pub untyped_number : type_of n ≡ Err 2 → 6 < n
   unfolding type_of pick
   untyped_number h =
       by_test (eqb n 0) (λ e. absurd (no_type _ (sym (simp e at h)))) (λ e0.
@@ -202,7 +201,7 @@ module _ (n : ℕ) where
       by_test (eqb n 6) (λ e. absurd (no_type _ (sym (simp (e0, e1, e2, e3, e4, e5, e) at h)))) (λ e6.
       above 6 (above 5 (above 4 (above 3 (above 2 (above 1 (above 0 (omega arith) (eqb-false n 0 e0)) (eqb-false n 1 e1)) (eqb-false n 2 e2)) (eqb-false n 3 e3)) (eqb-false n 4 e4)) (eqb-false n 5 e5)) (eqb-false n 6 e6))))))))
 
-  pub number_untyped : 6 < n → type_of n ≡ Invalid
+  pub number_untyped : 6 < n → type_of n ≡ Err 2
   unfolding type_of pick
   number_untyped h =
       simp (

@@ -1,5 +1,5 @@
 -- The bodies of packets (document 01, "Bytes on the wire"; the standard, "Packets"). A packet is its numbers, and bytes beside them.
-use Rattle.std.specs.Prelude.{ℕ, ◌^◌, ◌≤◌, ◌<◌, List, [], ◌++◌, length, ltb}
+use Rattle.std.specs.Prelude.{ℕ, ◌^◌, ◌≤◌, ◌<◌, List, [], ◌++◌, length, ltb, Result, Ok, Err}
 use Rattle.serialize.specs.Choice.{pick}
 use Rattle.serialize.specs.Runs.{part}
 use Rattle.serialize.specs.Le.{of_le, to_le}
@@ -7,8 +7,6 @@ use Rattle.bodies.specs.declared.PacketType.{PacketType}
 use Rattle.bodies.specs.declared.PacketType.TheVariants as kind
 use Rattle.bodies.specs.declared.Packet.{Packet}
 use Rattle.bodies.specs.declared.Packet.TheVariants.{ConnectionRequest, ConnectionDenied, Challenge, Response, KeepAlive, Payload, Disconnect}
-use Rattle.bodies.specs.declared.Body.{Body}
-use Rattle.bodies.specs.declared.Body.TheVariants.{Whole, Short}
 
 -- ---- sizes
 
@@ -116,5 +114,5 @@ beside kind.Payload b = b
 beside kind.Disconnect b = []
 
 -- a body shorter than its type's least is refused as 9
-unfoldable pub read_body : PacketType → List ℕ → Body
-read_body kind b = pick (ltb (length b) (least kind)) Short (Whole (numbers kind b))
+unfoldable pub read_body : PacketType → List ℕ → Result Packet ℕ
+read_body kind b = pick (ltb (length b) (least kind)) (Err 9) (Ok (numbers kind b))

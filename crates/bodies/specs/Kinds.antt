@@ -1,11 +1,9 @@
 -- The types of packets (document 01, "Bytes on the wire": 0 request, 1 denied, 2 challenge, 3 response, 4 keep-alive, 5 payload,
 -- 6 disconnect; only 4, 5 and 6 are windowed).
-use Rattle.std.specs.Prelude.{ℕ, Bool, true, false, eqb}
+use Rattle.std.specs.Prelude.{ℕ, Bool, true, false, eqb, Result, Ok, Err}
 use Rattle.serialize.specs.Choice.{pick}
 use Rattle.bodies.specs.declared.PacketType.{PacketType}
 use Rattle.bodies.specs.declared.PacketType.TheVariants.{ConnectionRequest, ConnectionDenied, Challenge, Response, KeepAlive, Payload, Disconnect}
-use Rattle.bodies.specs.declared.TypeRead.{TypeRead}
-use Rattle.bodies.specs.declared.TypeRead.TheVariants.{Known, Invalid}
 
 abbrev pub number_of : PacketType → ℕ
 number_of ConnectionRequest = 0
@@ -16,17 +14,17 @@ number_of KeepAlive = 4
 number_of Payload = 5
 number_of Disconnect = 6
 
--- the type of a number; over 6 there is none (refusal 2)
-unfoldable pub type_of : ℕ → TypeRead
+-- the type of a number; over 6 there is none, and that is refused as 2
+unfoldable pub type_of : ℕ → Result PacketType ℕ
 type_of n =
-    pick (eqb n 0) (Known ConnectionRequest)
-    (pick (eqb n 1) (Known ConnectionDenied)
-    (pick (eqb n 2) (Known Challenge)
-    (pick (eqb n 3) (Known Response)
-    (pick (eqb n 4) (Known KeepAlive)
-    (pick (eqb n 5) (Known Payload)
-    (pick (eqb n 6) (Known Disconnect)
-    Invalid))))))
+    pick (eqb n 0) (Ok ConnectionRequest)
+    (pick (eqb n 1) (Ok ConnectionDenied)
+    (pick (eqb n 2) (Ok Challenge)
+    (pick (eqb n 3) (Ok Response)
+    (pick (eqb n 4) (Ok KeepAlive)
+    (pick (eqb n 5) (Ok Payload)
+    (pick (eqb n 6) (Ok Disconnect)
+    (Err 2)))))))
 
 abbrev pub windowed : PacketType → Bool
 windowed ConnectionRequest = false

@@ -27,8 +27,8 @@ impl ChallengeToken {
         ensures { out.new ≡ splice out.old at (token_clear self) }
     {
         serialize::write_u64(out, at, self.client_id);
-        serialize::copy_bytes(out, at + 8, &self.user_data, 0, NETCODE_USER_DATA_BYTES);
-        serialize::zero_bytes(out, at + 264, 20);
+        serialize::copy(out, at + 8, &self.user_data, 0, NETCODE_USER_DATA_BYTES);
+        serialize::fill(out, at + 264, 20, 0);
     }
 
     // The token at index at.
@@ -38,7 +38,7 @@ impl ChallengeToken {
     {
         let client_id = serialize::read_u64(src, at);
         let mut user_data = [0u8; NETCODE_USER_DATA_BYTES];
-        serialize::copy_bytes(&mut user_data, 0, src, at + 8, NETCODE_USER_DATA_BYTES);
+        serialize::copy(&mut user_data, 0, src, at + 8, NETCODE_USER_DATA_BYTES);
         ChallengeToken {
             client_id,
             user_data,

@@ -5,6 +5,8 @@ ghost use Rattle.std.specs.Prelude.{◌≡◌};
 ghost use Rattle.bodies.specs.Kinds.{type_of, number_of, windowed, is_request};
 ghost use Rattle.bodies.specs.Bodies.{kind_of, least, wants, body_length};
 
+use refusal::{Refusal, Why};
+
 mod challenge;
 mod reader;
 mod writer;
@@ -33,13 +35,6 @@ pub enum PacketType {
     Disconnect,
 }
 
-// What a number is among the types: one of them, or none (refusal 2).
-#[derive(Clone, Copy)]
-pub enum TypeRead {
-    Known(PacketType),
-    Invalid,
-}
-
 // What a packet says in numbers. Its bytes stand beside it, in a slice: of a request its version, nonce and private data (13, 24
 // and 1,024), of a challenge or response its token data (300), of a payload all of it.
 #[derive(Clone, Copy)]
@@ -63,26 +58,21 @@ pub enum Packet {
     Disconnect,
 }
 
-// What a body is read as: a packet, or too short for its type (refusal 9).
-#[derive(Clone, Copy)]
-pub enum Body {
-    Whole(Packet),
-    Short,
-}
-
 impl PacketType {
-    pub fn from_u8(value: u8) -> TypeRead
+    // The type that a number is, among the seven.
+    #[tactic(auto, unfolding(crate::specs::Kinds::type_of, serialize::specs::Choice::pick))]
+    pub fn from_u8(value: u8) -> Result<PacketType, Refusal>
         ensures { result ≡ type_of value }
     {
         match value {
-            0 => TypeRead::Known(PacketType::ConnectionRequest),
-            1 => TypeRead::Known(PacketType::ConnectionDenied),
-            2 => TypeRead::Known(PacketType::Challenge),
-            3 => TypeRead::Known(PacketType::Response),
-            4 => TypeRead::Known(PacketType::KeepAlive),
-            5 => TypeRead::Known(PacketType::Payload),
-            6 => TypeRead::Known(PacketType::Disconnect),
-            _ => TypeRead::Invalid,
+            0 => Ok(PacketType::ConnectionRequest),
+            1 => Ok(PacketType::ConnectionDenied),
+            2 => Ok(PacketType::Challenge),
+            3 => Ok(PacketType::Response),
+            4 => Ok(PacketType::KeepAlive),
+            5 => Ok(PacketType::Payload),
+            6 => Ok(PacketType::Disconnect),
+            _ => Err(Refusal(Why::NoSuchType)),
         }
     }
 
@@ -100,7 +90,7 @@ impl PacketType {
         }
     }
 
-    // The least that a body of this type has; less is refused as 9.
+    // The least that a body of this type has; less is refused.
     pub fn least(self) -> usize
         ensures { result ≡ least self }
     {
@@ -148,30 +138,17 @@ impl PacketType {
     pub fn is_request(self) -> bool
         ensures { result ≡ is_request self }
     {
-        match self {
-            PacketType::ConnectionRequest => true,
-            PacketType::ConnectionDenied => false,
-            PacketType::Challenge => false,
-            PacketType::Response => false,
-            PacketType::KeepAlive => false,
-            PacketType::Payload => false,
-            PacketType::Disconnect => false,
-        }
+        matches!(self, PacketType::ConnectionRequest)
     }
 
     // Whether the window guards packets of this type.
     pub fn apply_replay_protection(self) -> bool
         ensures { result ≡ windowed self }
     {
-        match self {
-            PacketType::ConnectionRequest => false,
-            PacketType::ConnectionDenied => false,
-            PacketType::Challenge => false,
-            PacketType::Response => false,
-            PacketType::KeepAlive => true,
-            PacketType::Payload => true,
-            PacketType::Disconnect => true,
-        }
+        matches!(
+            self,
+            PacketType::KeepAlive | PacketType::Payload | PacketType::Disconnect
+        )
     }
 }
 
@@ -180,17 +157,11 @@ impl Packet {
         ensures { result ≡ kind_of self }
     {
         match self {
-            Packet::ConnectionRequest {
-                protocol_id: _,
-                expire_timestamp: _,
-            } => PacketType::ConnectionRequest,
+            Packet::ConnectionRequest { .. } => PacketType::ConnectionRequest,
             Packet::ConnectionDenied => PacketType::ConnectionDenied,
-            Packet::Challenge { token_sequence: _ } => PacketType::Challenge,
-            Packet::Response { token_sequence: _ } => PacketType::Response,
-            Packet::KeepAlive {
-                client_index: _,
-                max_clients: _,
-            } => PacketType::KeepAlive,
+            Packet::Challenge { .. } => PacketType::Challenge,
+            Packet::Response { .. } => PacketType::Response,
+            Packet::KeepAlive { .. } => PacketType::KeepAlive,
             Packet::Payload => PacketType::Payload,
             Packet::Disconnect => PacketType::Disconnect,
         }

@@ -4,26 +4,17 @@ ghost use Rattle.serialize.specs.Runs.{part};
 ghost use Rattle.bodies.specs.Bodies.{least, numbers, read_body};
 
 use crate::{
-    Body, NETCODE_CHALLENGE_TOKEN_BYTES, NETCODE_CONNECT_TOKEN_PRIVATE_BYTES,
+    NETCODE_CHALLENGE_TOKEN_BYTES, NETCODE_CONNECT_TOKEN_PRIVATE_BYTES,
     NETCODE_CONNECT_TOKEN_XNONCE_BYTES, Packet, PacketType,
 };
+use refusal::{Refusal, Why};
 
 // The n bytes from offset on of what starts at index at; as many of them as there are.
 pub fn field(src: &[u8], at: usize, offset: usize, n: usize) -> &[u8]
     ensures { result.now ≡ part src.now (at + offset) n }
 {
-    let len = src.len();
-    if len < at {
-        return &src[len..];
-    }
-    if len - at < offset {
-        return &src[len..];
-    }
-    let start = at + offset;
-    if len - start < n {
-        return &src[start..];
-    }
-    let end = start + n;
+    let start = at.saturating_add(offset).min(src.len());
+    let end = start.saturating_add(n).min(src.len());
     &src[start..end]
 }
 
@@ -59,10 +50,7 @@ pub fn token_data(src: &[u8], at: usize) -> &[u8]
 pub fn payload(src: &[u8], at: usize, end: usize) -> &[u8]
     ensures { result.now ≡ part src.now (at + 0) (end - at) }
 {
-    if end < at {
-        return field(src, at, 0, 0);
-    }
-    field(src, at, 0, end - at)
+    field(src, at, 0, end.saturating_sub(at))
 }
 
 fn read_request(src: &[u8], at: usize, n: usize) -> Packet
@@ -109,13 +97,14 @@ fn read_numbers(kind: PacketType, src: &[u8], at: usize, n: usize) -> Packet
     }
 }
 
-// The body of n bytes at index at.
-pub fn read(kind: PacketType, src: &[u8], at: usize, n: usize) -> Body
+// The body of n bytes at index at, if they are enough for its type.
+#[tactic(auto, using(serialize::proofs::Lists::length_part), unfolding(crate::specs::Bodies::read_body, serialize::specs::Choice::pick))]
+pub fn read(kind: PacketType, src: &[u8], at: usize, n: usize) -> Result<Packet, Refusal>
     requires { at + n ≤ length src.now }
     ensures { result ≡ read_body kind (part src.now at n) }
 {
     if n < kind.least() {
-        return Body::Short;
+        return Err(Refusal(Why::BodyShort));
     }
-    Body::Whole(read_numbers(kind, src, at, n))
+    Ok(read_numbers(kind, src, at, n))
 }

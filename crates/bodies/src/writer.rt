@@ -10,10 +10,10 @@ fn write_request(out: &mut [u8], at: usize, protocol_id: u64, expire_timestamp: 
     requires { (at + 1077 ≤ length out.old) × (1061 ≤ length bytes.now) }
     ensures { out.new ≡ splice out.old at (request_body protocol_id expire_timestamp bytes.now) }
 {
-    serialize::copy_bytes(out, at, bytes, 0, 13);
+    serialize::copy(out, at, bytes, 0, 13);
     serialize::write_u64(out, at + 13, protocol_id);
     serialize::write_u64(out, at + 21, expire_timestamp);
-    serialize::copy_bytes(out, at + 29, bytes, 13, 1048);
+    serialize::copy(out, at + 29, bytes, 13, 1048);
 }
 
 // The token's sequence and its 300 bytes.
@@ -22,7 +22,7 @@ fn write_token(out: &mut [u8], at: usize, token_sequence: u64, bytes: &[u8])
     ensures { out.new ≡ splice out.old at (token_body token_sequence bytes.now) }
 {
     serialize::write_u64(out, at, token_sequence);
-    serialize::copy_bytes(out, at + 8, bytes, 0, NETCODE_CHALLENGE_TOKEN_BYTES);
+    serialize::copy(out, at + 8, bytes, 0, NETCODE_CHALLENGE_TOKEN_BYTES);
 }
 
 fn write_keep_alive(out: &mut [u8], at: usize, client_index: u32, max_clients: u32)
@@ -34,6 +34,7 @@ fn write_keep_alive(out: &mut [u8], at: usize, client_index: u32, max_clients: u
 }
 
 // The packet's body, whole, into out from index at.
+#[tactic(auto, using(serialize::proofs::Lists::part_whole, serialize::proofs::Lists::splice_none))]
 pub fn write(out: &mut [u8], at: usize, packet: Packet, bytes: &[u8])
     requires { (wants (kind_of packet) ≤ length bytes.now) × (at + body_length (kind_of packet) (length bytes.now) ≤ length out.old) }
     ensures { out.new ≡ splice out.old at (body packet bytes.now) }
@@ -50,7 +51,7 @@ pub fn write(out: &mut [u8], at: usize, packet: Packet, bytes: &[u8])
             client_index,
             max_clients,
         } => write_keep_alive(out, at, client_index, max_clients),
-        Packet::Payload => serialize::copy_bytes(out, at, bytes, 0, bytes.len()),
+        Packet::Payload => serialize::copy(out, at, bytes, 0, bytes.len()),
         Packet::Disconnect => {}
     }
 }

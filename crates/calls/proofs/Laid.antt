@@ -3,23 +3,19 @@ use mathlib.Core.Path.{◌≡◌, refl, sym, ap, ◌∙◌}
 use Prim.Native.Nat.{ℕ, ◌≤◌, ◌<◌}
 use mathlib.Core.Bool.{Bool}
 use mathlib.Core.List.{List}
+use Rattle.std.specs.Prelude.{Result, Ok, Err, Option}
 use lib.ListN.{length}
 use borrow.Author.Tests.{lt-ltb, le-ltb}
 use Rattle.serialize.specs.Choice.{pick}
 use Rattle.serialize.specs.Runs.{part, splice, zeros}
 use Rattle.serialize.proofs.Lists.{part_whole}
-use Rattle.replay_protection.specs.Stored.{put_window}
-use Rattle.replay_protection.specs.Ours.{window_of}
+use Rattle.replay_protection.specs.declared.ReplayProtection.{ReplayProtection}
 use Rattle.bodies.specs.declared.PacketType.{PacketType}
-use Rattle.bodies.specs.declared.TypeRead.{TypeRead}
-use Rattle.bodies.specs.declared.TypeRead.TheVariants.{Known, Invalid}
 use Rattle.bodies.specs.declared.Packet.{Packet}
 use Rattle.bodies.specs.Kinds.{type_of}
 use Rattle.asks.specs.declared.Ask.{Ask}
-use Rattle.asks.specs.declared.PrivateKey.{PrivateKey}
 use Rattle.encode.specs.declared.Encoded.{Encoded}
 use Rattle.encode.specs.Encodes.{Done, done, encode}
-use Rattle.decode.specs.declared.Guard.{Guard}
 use Rattle.decode.specs.declared.Opening.{Opening}
 use Rattle.decode.specs.declared.Decoded.{Decoded}
 use Rattle.decode.specs.declared.ProofOpening.{ProofOpening}
@@ -52,50 +48,50 @@ encoded_laid e out desk told d p q r =
     ∙ ap (λ (x : List ℕ). handed (encoded_desk e) x out) r
     ∙ ap encoded_call p
 
-pub encode_laid : (kind : PacketType) (packet : Packet) (key : PrivateKey) (e : Encoded) (out' desk told : List ℕ)
+pub encode_laid : (kind : PacketType) (packet : Packet) (key : Option (List ℕ)) (e : Encoded) (out' desk told : List ℕ)
     (out : List ℕ) (number a b : ℕ) (bytes : List ℕ) (protocol : ℕ) (keyed : Bool) (private : List ℕ) (sequence : ℕ)
-    → type_of number ≡ Known kind → packet ≡ packet_of kind a b → key ≡ key_of keyed private
+    → type_of number ≡ Ok kind → packet ≡ packet_of kind a b → key ≡ key_of keyed private
     → done e out' ≡ encode out packet bytes protocol key sequence → desk ≡ encoded_desk e → told ≡ told_of e.ask
     → handed desk told out' ≡ encode_call out number a b bytes protocol keyed private sequence
 encode_laid kind packet key e out' desk told out number a b bytes protocol keyed private sequence t p k d q r =
     encoded_laid e out' desk told _ d q r
     ∙ ap (λ (x : Packet). encoded_call (encode out x bytes protocol key sequence)) p
-    ∙ ap (λ (x : PrivateKey). encoded_call (encode out (packet_of kind a b) bytes protocol x sequence)) k
-    ∙ sym (ap (λ (x : TypeRead). encode_typed x out a b bytes protocol (key_of keyed private) sequence) t)
+    ∙ ap (λ (x : Option (List ℕ)). encoded_call (encode out (packet_of kind a b) bytes protocol x sequence)) k
+    ∙ sym (ap (λ (x : Result PacketType ℕ). encode_typed x out a b bytes protocol (key_of keyed private) sequence) t)
 
-pub untyped_laid : (desk out : List ℕ) (number a b : ℕ) (bytes : List ℕ) (protocol : ℕ) (keyed : Bool) (private : List ℕ) (sequence : ℕ)
-    → type_of number ≡ Invalid → desk ≡ refused_desk 2
+pub untyped_laid : (desk out : List ℕ) {n : ℕ} (number a b : ℕ) (bytes : List ℕ) (protocol : ℕ) (keyed : Bool) (private : List ℕ) (sequence : ℕ)
+    → type_of number ≡ Err n → desk ≡ refused_desk n
     → handed desk (zeros 66) out ≡ encode_call out number a b bytes protocol keyed private sequence
 untyped_laid desk out number a b bytes protocol keyed private sequence t q =
     ap (λ (x : List ℕ). handed x (zeros 66) out) q
-    ∙ sym (ap (λ (x : TypeRead). encode_typed x out a b bytes protocol (key_of keyed private) sequence) t)
+    ∙ sym (ap (λ (x : Result PacketType ℕ). encode_typed x out a b bytes protocol (key_of keyed private) sequence) t)
 
 -- ---- a datagram read: desk, bytes for the cipher, window
 
-pub decode_laid : (key : PrivateKey) (guard : Guard) (r : Decoded) (desk told left : List ℕ)
+pub decode_laid : (key : Option (List ℕ)) (guard : Option ReplayProtection) (r : Decoded) (desk told left : List ℕ)
     (d : List ℕ) (protocol : ℕ) (keyed : Bool) (private : List ℕ) (guarded : Bool) (words : List ℕ)
     → key ≡ key_of keyed private → guard ≡ guard_of guarded words → r ≡ decode d protocol key guard
-    → desk ≡ decoded_desk r → told ≡ told_of r.ask → left ≡ put_window words 0 (window_of r.guard.window)
+    → desk ≡ decoded_desk r → told ≡ told_of r.ask → left ≡ window_left words r.guard
     → handed desk told left ≡ decode_call d protocol keyed private guarded words
 decode_laid key guard r desk told left d protocol keyed private guarded words k g p q t l =
     ap (λ (x : List ℕ). handed x told left) q
     ∙ ap (λ (x : List ℕ). handed (decoded_desk r) x left) t
     ∙ ap (λ (x : List ℕ). handed (decoded_desk r) (told_of r.ask) x) l
-    ∙ ap (λ (x : Decoded). handed (decoded_desk x) (told_of x.ask) (window_left words x)) (p
-    ∙ ap (λ (x : PrivateKey). decode d protocol x guard) k
-    ∙ ap (λ (x : Guard). decode d protocol (key_of keyed private) x) g)
+    ∙ ap (λ (x : Decoded). handed (decoded_desk x) (told_of x.ask) (window_left words x.guard)) (p
+    ∙ ap (λ (x : Option (List ℕ)). decode d protocol x guard) k
+    ∙ ap (λ (x : Option ReplayProtection). decode d protocol (key_of keyed private) x) g)
 
-pub answer_open_laid : (opening : Opening) (guard : Guard) (r : Decoded) (desk' left : List ℕ)
+pub answer_open_laid : (opening : Option Opening) (guard : Option ReplayProtection) (r : Decoded) (desk' left : List ℕ)
     (desk d : List ℕ) (guarded : Bool) (words : List ℕ) (granted : Bool)
     → opening ≡ opening_of (kept_on desk) → guard ≡ guard_of guarded words → r ≡ answer_open opening d guard granted
-    → desk' ≡ decoded_desk r → left ≡ put_window words 0 (window_of r.guard.window)
+    → desk' ≡ decoded_desk r → left ≡ window_left words r.guard
     → placed desk' left ≡ answer_open_call desk d guarded words granted
 answer_open_laid opening guard r desk' left desk d guarded words granted o g p q l =
     ap (λ (x : List ℕ). placed x left) q
     ∙ ap (placed (decoded_desk r)) l
-    ∙ ap (λ (x : Decoded). placed (decoded_desk x) (window_left words x)) (p
-    ∙ ap (λ (x : Opening). answer_open x d guard granted) o
-    ∙ ap (λ (x : Guard). answer_open (opening_of (kept_on desk)) d x granted) g)
+    ∙ ap (λ (x : Decoded). placed (decoded_desk x) (window_left words x.guard)) (p
+    ∙ ap (λ (x : Option Opening). answer_open x d guard granted) o
+    ∙ ap (λ (x : Option ReplayProtection). answer_open (opening_of (kept_on desk)) d x granted) g)
 
 -- ---- challenge tokens
 
@@ -103,13 +99,13 @@ pub challenge_laid : (c e : Challenged) (desk told : List ℕ) → c ≡ e → d
     → placed desk told ≡ challenge_call e
 challenge_laid c e desk told p q r = ap (λ (x : List ℕ). placed x told) q ∙ ap (placed (challenged_desk c)) r ∙ ap challenge_call p
 
-pub answer_challenge_laid : (opening : ProofOpening) (c : Challenged) (desk' : List ℕ) (desk src : List ℕ) (granted : Bool)
+pub answer_challenge_laid : (opening : Option ProofOpening) (c : Challenged) (desk' : List ℕ) (desk src : List ℕ) (granted : Bool)
     → opening ≡ proof_opening_of (kept_on desk)
     → c ≡ answer_challenge opening src granted → desk' ≡ challenged_desk c
     → placed desk' c.token.user_data ≡ answer_challenge_call desk src granted
 answer_challenge_laid opening c desk' desk src granted o p q =
     ap (λ (x : List ℕ). placed x c.token.user_data) q
-    ∙ ap token_call (p ∙ ap (λ (x : ProofOpening). answer_challenge x src granted) o)
+    ∙ ap token_call (p ∙ ap (λ (x : Option ProofOpening). answer_challenge x src granted) o)
 
 -- ---- a part of a body, copied where it fits
 

@@ -1,2 +1,3 @@
 pub mod Laid
 pub mod Determined
+pub mod Unguarded

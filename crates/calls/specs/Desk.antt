@@ -1,12 +1,10 @@
 -- The desk: how answers, asks and what is kept open are laid out in sixteen words (ours; document 01, "Our forms": where an answer is
 -- an enum, a definition gives this paper's number and values for each case).
-use Rattle.std.specs.Prelude.{ℕ, ◌+◌, ◌-◌, ◌%◌, ◌^◌, List, [], ◌∷◌, get_or, eqb}
+use Rattle.std.specs.Prelude.{ℕ, ◌+◌, ◌-◌, ◌%◌, ◌^◌, List, [], ◌∷◌, get_or, eqb, Option, Some, None, Result, Ok, Err}
 use Rattle.serialize.specs.Choice.{pick}
 use Rattle.serialize.specs.Runs.{splice, zeros}
 use Rattle.bodies.specs.declared.PacketType.{PacketType}
 use Rattle.bodies.specs.declared.PacketType.TheVariants as kind
-use Rattle.bodies.specs.declared.TypeRead.{TypeRead}
-use Rattle.bodies.specs.declared.TypeRead.TheVariants.{Known, Invalid}
 use Rattle.bodies.specs.declared.Packet.{Packet}
 use Rattle.bodies.specs.declared.Packet.TheVariants.{ConnectionRequest, ConnectionDenied, Challenge, Response, KeepAlive, Payload, Disconnect}
 use Rattle.bodies.specs.Kinds.{number_of, type_of}
@@ -18,17 +16,17 @@ use Rattle.encode.specs.declared.Encoded.{Encoded}
 use Rattle.encode.specs.declared.Encoding.{Encoding}
 use Rattle.encode.specs.declared.Encoding.TheVariants as encoding
 use Rattle.encode.specs.declared.Sealing.{Sealing}
-use Rattle.encode.specs.declared.Sealing.TheVariants as sealing
+use Rattle.encode.specs.Encodes.{open_at}
 use Rattle.decode.specs.declared.Decoded.{Decoded}
 use Rattle.decode.specs.declared.Decoding.{Decoding}
 use Rattle.decode.specs.declared.Decoding.TheVariants as decoding
 use Rattle.decode.specs.declared.Opening.{Opening}
-use Rattle.decode.specs.declared.Opening.TheVariants as opening
 use Rattle.decode.specs.declared.Challenged.{Challenged}
 use Rattle.decode.specs.declared.Proving.{Proving}
 use Rattle.decode.specs.declared.Proving.TheVariants as proving
 use Rattle.decode.specs.declared.ProofOpening.{ProofOpening}
-use Rattle.decode.specs.declared.ProofOpening.TheVariants as proof
+use Rattle.decode.specs.Decodes.{opening_as}
+use Rattle.decode.specs.Challenges.{proof_as}
 use Rattle.calls.specs.declared.desk.Said.{Said}
 use Rattle.calls.specs.declared.desk.Shown.{Shown}
 use Rattle.calls.specs.declared.desk.Kept.{Kept}
@@ -78,9 +76,9 @@ said_encoding (encoding.Refused n) = saying 0 n
 said_encoding encoding.Asked = saying 1 0
 said_encoding (encoding.Length n) = saying 2 n
 
-abbrev pub kept_sealing : Sealing → Kept
-kept_sealing sealing.Closed = no_kept
-kept_sealing (sealing.Open end len) = keeping 1 0 end len
+abbrev pub kept_sealing : Option Sealing → Kept
+kept_sealing None = no_kept
+kept_sealing (Some ask) = keeping 1 0 ask.end ask.len
 
 abbrev pub encoded_desk : Encoded → List ℕ
 encoded_desk e = laid (said_encoding e.answer) no_show e.ask (kept_sealing e.sealing)
@@ -88,8 +86,8 @@ encoded_desk e = laid (said_encoding e.answer) no_show e.ask (kept_sealing e.sea
 abbrev pub refused_desk : ℕ → List ℕ
 refused_desk n = 0 ∷ n ∷ 0 ∷ 0 ∷ 0 ∷ 0 ∷ 0 ∷ 0 ∷ 0 ∷ 0 ∷ 0 ∷ 0 ∷ 0 ∷ 0 ∷ 0 ∷ 0 ∷ []
 
-unfoldable pub sealing_of : Kept → Sealing
-sealing_of kept = pick (eqb kept.code 0) sealing.Closed (sealing.Open kept.place kept.len)
+unfoldable pub sealing_of : Kept → Option Sealing
+sealing_of kept = pick (eqb kept.code 0) None (open_at kept.place kept.len)
 
 -- ---- packets
 
@@ -136,20 +134,20 @@ shown_of (decoding.Read o) =
     showing o.sequence (number_of (kind_of o.packet)) (first_of o.packet) (second_of o.packet) o.start o.end
 
 -- one more than the type, so that 0 is nothing open
-abbrev pub kept_opening : Opening → Kept
-kept_opening opening.Closed = no_kept
-kept_opening (opening.Open kind sequence start len) = keeping (1 + number_of kind) sequence start len
+abbrev pub kept_opening : Option Opening → Kept
+kept_opening None = no_kept
+kept_opening (Some ask) = keeping (1 + number_of ask.kind) ask.sequence ask.start ask.len
 
 abbrev pub decoded_desk : Decoded → List ℕ
 decoded_desk d = laid (said_decoding d.answer) (shown_of d.answer) d.ask (kept_opening d.opening)
 
-abbrev pub opened_as : TypeRead → Kept → Opening
-opened_as (Known kind) kept = opening.Open kind kept.sequence kept.place kept.len
-opened_as Invalid kept = opening.Closed
+abbrev pub opened_as : Result PacketType ℕ → Kept → Option Opening
+opened_as (Ok kind) kept = Some (opening_as kind kept.sequence kept.place kept.len)
+opened_as (Err n) kept = None
 
 -- a code that no type has is nothing open
-unfoldable pub opening_of : Kept → Opening
-opening_of kept = pick (eqb kept.code 0) opening.Closed (opened_as (type_of ((kept.code - 1) % 256)) kept)
+unfoldable pub opening_of : Kept → Option Opening
+opening_of kept = pick (eqb kept.code 0) None (opened_as (type_of ((kept.code - 1) % 256)) kept)
 
 -- ---- challenge tokens
 
@@ -158,14 +156,14 @@ said_proving (proving.Refused n) = saying 0 n
 said_proving proving.Asked = saying 1 0
 said_proving proving.Proved = saying 2 0
 
-abbrev pub kept_proof : ProofOpening → Kept
-kept_proof proof.Closed = no_kept
-kept_proof (proof.Open at len) = keeping 1 0 at len
+abbrev pub kept_proof : Option ProofOpening → Kept
+kept_proof None = no_kept
+kept_proof (Some ask) = keeping 1 0 ask.at ask.len
 
 -- the token's client in the place of a packet's first number
 abbrev pub challenged_desk : Challenged → List ℕ
 challenged_desk c =
     laid (said_proving c.answer) (showing 0 0 c.token.client_id 0 0 0) c.ask (kept_proof c.opening)
 
-unfoldable pub proof_opening_of : Kept → ProofOpening
-proof_opening_of kept = pick (eqb kept.code 0) proof.Closed (proof.Open kept.place kept.len)
+unfoldable pub proof_opening_of : Kept → Option ProofOpening
+proof_opening_of kept = pick (eqb kept.code 0) None (Some (proof_as kept.place kept.len))

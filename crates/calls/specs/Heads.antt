@@ -1,7 +1,5 @@
 -- What the calls on heads hand out as words.
-use Rattle.std.specs.Prelude.{ℕ, ◌/◌, ◌%◌, List, [], ◌∷◌}
-use Rattle.prefix.specs.declared.Sequence.{Sequence}
-use Rattle.prefix.specs.declared.Sequence.TheVariants.{Number, TooLong, Short}
+use Rattle.std.specs.Prelude.{ℕ, ◌/◌, ◌%◌, List, [], ◌∷◌, Result, Ok, Err}
 use Rattle.prefix.specs.Head.{sequence_at, refusal_of}
 
 -- a type and a count
@@ -9,13 +7,12 @@ abbrev pub prefix_words : ℕ → List ℕ
 prefix_words value = value % 16 ∷ value / 16 ∷ []
 
 -- the sequence that was read, 0 where it was refused
-abbrev pub number_or0 : Sequence → ℕ
-number_or0 (Number v) = v
-number_or0 TooLong = 0
-number_or0 Short = 0
+abbrev pub number_or0 : Result ℕ ℕ → ℕ
+number_or0 (Ok v) = v
+number_or0 (Err n) = 0
 
 -- document 01's number, 0 for none, and the sequence
-abbrev pub told : Sequence → List ℕ
+abbrev pub told : Result ℕ ℕ → List ℕ
 told s = refusal_of s ∷ number_or0 s ∷ []
 
 abbrev pub sequence_words : List ℕ → ℕ → ℕ → List ℕ

@@ -7,9 +7,10 @@ ghost use Rattle.bodies.specs.Kinds.{type_of};
 ghost use Rattle.calls.specs.Desk.{work_code, told_of, laid, no_show, no_kept, kept_on, said_encoding, kept_sealing, encoded_desk, refused_desk, sealing_of, first_of, second_of, packet_of, said_decoding, shown_of, kept_opening, decoded_desk, opening_of, said_proving, kept_proof, challenged_desk, proof_opening_of};
 
 use asks::{Ask, Work};
-use bodies::{Packet, PacketType, TypeRead};
+use bodies::{Packet, PacketType};
 use decode::{Challenged, Decoded, Decoding, Opened, Opening, ProofOpening, Proving};
 use encode::{Encoded, Encoding, Sealing};
+use refusal::Refusal;
 
 // Words 0 and 1.
 #[derive(Clone, Copy)]
@@ -79,9 +80,9 @@ pub fn told_of(ask: Ask) -> [u8; 66]
     ensures { result ≡ told_of ask }
 {
     let mut told = [0u8; 66];
-    serialize::copy_bytes(&mut told, 0, &ask.key, 0, 32);
-    serialize::copy_bytes(&mut told, 32, &ask.nonce, 0, 12);
-    serialize::copy_bytes(&mut told, 44, &ask.additional, 0, 22);
+    serialize::copy(&mut told, 0, &ask.key, 0, 32);
+    serialize::copy(&mut told, 32, &ask.nonce, 0, 12);
+    serialize::copy(&mut told, 44, &ask.additional, 0, 22);
     told
 }
 
@@ -127,9 +128,9 @@ fn said_encoding(answer: Encoding) -> Said
     ensures { result ≡ said_encoding answer }
 {
     match answer {
-        Encoding::Refused(number) => Said {
+        Encoding::Refused(refusal) => Said {
             code: 0,
-            value: number as u64,
+            value: u64::from(refusal.number()),
         },
         Encoding::Asked => Said { code: 1, value: 0 },
         Encoding::Length(len) => Said {
@@ -139,17 +140,17 @@ fn said_encoding(answer: Encoding) -> Said
     }
 }
 
-fn kept_sealing(sealing: Sealing) -> Kept
+fn kept_sealing(sealing: Option<Sealing>) -> Kept
     ensures { result ≡ kept_sealing sealing }
 {
     match sealing {
-        Sealing::Closed => no_kept(),
-        Sealing::Open { end, len } => Kept {
+        Some(open) => Kept {
             code: 1,
             sequence: 0,
-            place: end as u64,
-            len: len as u64,
+            place: open.end as u64,
+            len: open.len as u64,
         },
+        None => no_kept(),
     }
 }
 
@@ -169,16 +170,16 @@ pub fn refused_desk(number: u64) -> [u64; 16]
     [0, number, 0, 0, 0, 0, 0, 0, 0, 0, 0, 0, 0, 0, 0, 0]
 }
 
-pub fn sealing_of(kept: Kept) -> Sealing
+pub fn sealing_of(kept: Kept) -> Option<Sealing>
     ensures { result ≡ sealing_of kept }
 {
     if kept.code == 0 {
-        return Sealing::Closed;
+        return None;
     }
-    Sealing::Open {
+    Some(Sealing {
         end: kept.place as usize,
         len: kept.len as usize,
-    }
+    })
 }
 
 // ---- packets
@@ -252,13 +253,13 @@ pub fn packet_of(kind: PacketType, a: u64, b: u64) -> Packet
 
 // ---- decoding
 
-fn said_decoding(answer: Decoding) -> Said
-    ensures { result ≡ said_decoding answer }
+fn said_decoding(answer: &Decoding) -> Said
+    ensures { result ≡ said_decoding answer.now }
 {
-    match answer {
-        Decoding::Refused(number) => Said {
+    match *answer {
+        Decoding::Refused(refusal) => Said {
             code: 0,
-            value: number as u64,
+            value: u64::from(refusal.number()),
         },
         Decoding::Asked => Said { code: 1, value: 0 },
         Decoding::Read(_) => Said { code: 2, value: 0 },
@@ -289,22 +290,17 @@ fn shown_of(answer: Decoding) -> Shown
     }
 }
 
-fn kept_opening(opening: Opening) -> Kept
+fn kept_opening(opening: Option<Opening>) -> Kept
     ensures { result ≡ kept_opening opening }
 {
     match opening {
-        Opening::Closed => no_kept(),
-        Opening::Open {
-            kind,
-            sequence,
-            start,
-            len,
-        } => Kept {
-            code: 1 + kind.to_u8() as u64,
-            sequence,
-            place: start as u64,
-            len: len as u64,
+        Some(open) => Kept {
+            code: 1 + open.kind.to_u8() as u64,
+            sequence: open.sequence,
+            place: open.start as u64,
+            len: open.len as u64,
         },
+        None => no_kept(),
     }
 }
 
@@ -315,7 +311,7 @@ pub fn decoded_desk(decoded: Decoded) -> [u64; 16]
     let opening = decoded.opening;
     let ask = decoded.ask;
     lay(
-        said_decoding(answer),
+        said_decoding(&answer),
         shown_of(answer),
         ask,
         kept_opening(opening),
@@ -323,27 +319,27 @@ pub fn decoded_desk(decoded: Decoded) -> [u64; 16]
 }
 
 // The type that a code of something kept open is of.
-fn kept_type(code: u64) -> TypeRead
+fn kept_type(code: u64) -> Result<PacketType, Refusal>
     requires { 0 < code }
     ensures { result ≡ type_of ((code - 1) % 256) }
 {
     PacketType::from_u8(((code - 1) % 256) as u8)
 }
 
-pub fn opening_of(kept: Kept) -> Opening
+pub fn opening_of(kept: Kept) -> Option<Opening>
     ensures { result ≡ opening_of kept }
 {
     if kept.code == 0 {
-        return Opening::Closed;
+        return None;
     }
     match kept_type(kept.code) {
-        TypeRead::Known(kind) => Opening::Open {
+        Ok(kind) => Some(Opening {
             kind,
             sequence: kept.sequence,
             start: kept.place as usize,
             len: kept.len as usize,
-        },
-        TypeRead::Invalid => Opening::Closed,
+        }),
+        Err(_) => None,
     }
 }
 
@@ -353,26 +349,26 @@ fn said_proving(answer: Proving) -> Said
     ensures { result ≡ said_proving answer }
 {
     match answer {
-        Proving::Refused(number) => Said {
+        Proving::Refused(refusal) => Said {
             code: 0,
-            value: number as u64,
+            value: u64::from(refusal.number()),
         },
         Proving::Asked => Said { code: 1, value: 0 },
         Proving::Proved => Said { code: 2, value: 0 },
     }
 }
 
-fn kept_proof(opening: ProofOpening) -> Kept
+fn kept_proof(opening: Option<ProofOpening>) -> Kept
     ensures { result ≡ kept_proof opening }
 {
     match opening {
-        ProofOpening::Closed => no_kept(),
-        ProofOpening::Open { at, len } => Kept {
+        Some(open) => Kept {
             code: 1,
             sequence: 0,
-            place: at as u64,
-            len: len as u64,
+            place: open.at as u64,
+            len: open.len as u64,
         },
+        None => no_kept(),
     }
 }
 
@@ -387,14 +383,14 @@ pub fn challenged_desk(challenged: Challenged) -> [u64; 16]
     lay(said_proving(answer), shown, ask, kept_proof(opening))
 }
 
-pub fn proof_opening_of(kept: Kept) -> ProofOpening
+pub fn proof_opening_of(kept: Kept) -> Option<ProofOpening>
     ensures { result ≡ proof_opening_of kept }
 {
     if kept.code == 0 {
-        return ProofOpening::Closed;
+        return None;
     }
-    ProofOpening::Open {
+    Some(ProofOpening {
         at: kept.place as usize,
         len: kept.len as usize,
-    }
+    })
 }

@@ -38,14 +38,11 @@ pub fn pump_read_sequence(source: &[u8], at: usize, len: usize, words: &mut [u64
     ensures { words.new ≡ sequence_words source.now at len }
 {
     match prefix::read_sequence(source, at, len) {
-        prefix::Sequence::Number(number) => {
+        Ok(number) => {
             *words = [0, number];
         }
-        prefix::Sequence::TooLong => {
-            *words = [4, 0];
-        }
-        prefix::Sequence::Short => {
-            *words = [7, 0];
+        Err(refusal) => {
+            *words = [u64::from(refusal.number()), 0];
         }
     }
 }

@@ -1,18 +1,11 @@
 // Packets: encode and decode, and the host's answers. What is kept open between a call and its answer lies on the desk.
 ghost use Rattle.std.specs.Prelude.{◌≡◌};
 ghost use Rattle.calls.specs.Heads.{written};
-ghost use Rattle.calls.specs.Packets.{handed, placed, key_of, encode_call, answer_seal_call, guard_of, decode_call, answer_open_call, field_of, field_call};
+ghost use Rattle.calls.specs.Packets.{handed, placed, encode_call, answer_seal_call, guard_of, decode_call, answer_open_call, window_left, field_of, field_call};
 
 use crate::desk;
-use asks::PrivateKey;
-use bodies::{PacketType, TypeRead};
-use decode::Guard;
-
-fn key_of(given: bool, bytes: [u8; 32]) -> PrivateKey
-    ensures { result ≡ key_of given bytes }
-{
-    PrivateKey { given, bytes }
-}
+use bodies::PacketType;
+use replay_protection::ReplayProtection;
 
 // The packet of a type and two numbers, with its bytes beside it, into out: 2 for a type over 6.
 pub fn pump_encode(
@@ -31,22 +24,22 @@ pub fn pump_encode(
     ensures { handed words.new told.new out.new ≡ encode_call out.old kind a b bytes.now protocol_id keyed key.now sequence }
 {
     match PacketType::from_u8(kind) {
-        TypeRead::Known(known) => {
+        Ok(known) => {
             let packet = desk::packet_of(known, a, b);
             let encoded = encode::encode(
                 out,
                 packet,
                 bytes,
                 protocol_id,
-                key_of(keyed, *key),
+                keyed.then_some(*key),
                 sequence,
             );
-            *words = desk::encoded_desk(encoded);
             let ask = encoded.ask;
+            *words = desk::encoded_desk(encoded);
             *told = desk::told_of(ask);
         }
-        TypeRead::Invalid => {
-            *words = desk::refused_desk(2);
+        Err(refusal) => {
+            *words = desk::refused_desk(u64::from(refusal.number()));
             *told = [0; 66];
         }
     }
@@ -61,12 +54,22 @@ pub fn pump_answer_seal(out: &[u8], granted: bool, words: &mut [u64; 16])
     *words = desk::encoded_desk(encoded);
 }
 
-fn guard_of(given: bool, words: &[u64; 257]) -> Guard
+fn guard_of(given: bool, words: &[u64; 257]) -> Option<ReplayProtection>
     ensures { result ≡ guard_of given words.now }
 {
-    Guard {
-        given,
-        window: replay_protection::load_window(words, 0),
+    if given {
+        Some(replay_protection::load_window(words, 0))
+    } else {
+        None
+    }
+}
+
+// The window goes back into its words, if there is one.
+fn put_back(window: &mut [u64; 257], guard: Option<ReplayProtection>)
+    ensures { window.new ≡ window_left window.old guard }
+{
+    if let Some(left) = guard {
+        replay_protection::store_window(window, 0, left);
     }
 }
 
@@ -86,15 +89,13 @@ pub fn pump_decode(
     let decoded = decode::decode(
         datagram,
         protocol_id,
-        key_of(keyed, *key),
+        keyed.then_some(*key),
         guard_of(guarded, window),
     );
-    *words = desk::decoded_desk(decoded);
     let ask = decoded.ask;
+    put_back(window, decoded.guard);
+    *words = desk::decoded_desk(decoded);
     *told = desk::told_of(ask);
-    let guard = decoded.guard;
-    let left = guard.window;
-    replay_protection::store_window(window, 0, left);
 }
 
 // The host's answer to an ask to open.
@@ -109,10 +110,8 @@ pub fn pump_answer_open(
 {
     let opening = desk::opening_of(desk::kept_on(words));
     let decoded = decode::answer_open(opening, datagram, guard_of(guarded, window), granted);
+    put_back(window, decoded.guard);
     *words = desk::decoded_desk(decoded);
-    let guard = decoded.guard;
-    let left = guard.window;
-    replay_protection::store_window(window, 0, left);
 }
 
 // A part of a body that stands from at to end: version, nonce, private data, token data, or else all of it.
@@ -137,6 +136,6 @@ pub fn pump_field(which: u8, src: &[u8], at: usize, end: usize, out: &mut [u8]) 
     if out.len() < n {
         return n;
     }
-    serialize::copy_bytes(out, 0, field, 0, n);
+    serialize::copy(out, 0, field, 0, n);
     n
 }

@@ -26,8 +26,8 @@ pub fn pump_generate_challenge(
         challenge_sequence,
         *challenge_key,
     );
-    *words = desk::encoded_desk(encoded);
     let ask = encoded.ask;
+    *words = desk::encoded_desk(encoded);
     *told = desk::told_of(ask);
 }
 
@@ -43,8 +43,8 @@ pub fn pump_decode_challenge(
     ensures { placed words.new told.new ≡ decode_challenge_call token_data.now at token_sequence challenge_key.now }
 {
     let challenged = decode::decode_challenge(token_data, at, token_sequence, *challenge_key);
-    *words = desk::challenged_desk(challenged);
     let ask = challenged.ask;
+    *words = desk::challenged_desk(challenged);
     *told = desk::told_of(ask);
 }
 
@@ -59,8 +59,8 @@ pub fn pump_answer_challenge(
 {
     let opening = desk::proof_opening_of(desk::kept_on(words));
     let challenged = decode::answer_challenge(opening, token_data, granted);
-    *words = desk::challenged_desk(challenged);
     let token = challenged.token;
     let user = token.user_data;
+    *words = desk::challenged_desk(challenged);
     *user_data = user;
 }

@@ -21,7 +21,7 @@ pub fn pump_already_received(window: &[u64; 257], sequence: u64) -> bool
 pub fn pump_refusal(window: &[u64; 257], sequence: u64) -> u8
     ensures { result ≡ refusal width (window_at width window.now 0) sequence }
 {
-    replay_protection::load_window(window, 0).refusal(sequence)
+    refusal::number(replay_protection::load_window(window, 0).refusal(sequence))
 }
 
 pub fn pump_advance_sequence(window: &mut [u64; 257], sequence: u64)
@@ -34,7 +34,7 @@ pub fn pump_advance_sequence(window: &mut [u64; 257], sequence: u64)
 pub fn pump_refusal_at(window: &[u64; 257], sequence: u64) -> u8
     ensures { result ≡ refusal width (window_at width window.now 0) sequence }
 {
-    replay_protection::refusal_at(window, 0, sequence)
+    refusal::number(replay_protection::refusal_at(window, 0, sequence))
 }
 
 pub fn pump_advance_at(window: &mut [u64; 257], sequence: u64)

@@ -8,15 +8,9 @@ mod token;
 use asks::Ask;
 use bodies::{ChallengeToken, Packet, PacketType};
 pub use reading::{answer_open, decode, guard_refusal, read_opened, read_start, read_type};
+use refusal::Refusal;
 use replay_protection::ReplayProtection;
 pub use token::{answer_challenge, decode_challenge};
-
-// A window that may be missing.
-#[derive(Clone, Copy)]
-pub struct Guard {
-    pub given: bool,
-    pub window: ReplayProtection,
-}
 
 // A packet that was read, with its sequence and the place of its body in the datagram.
 #[derive(Clone, Copy)]
@@ -27,67 +21,58 @@ pub struct Opened {
     pub end: usize,
 }
 
-// What decoding comes to: refused by a number, an ask to open, or a packet.
+// What decoding comes to, an enum of its own, as document 01 wants an answer: refused, an ask to open, or a packet.
 #[derive(Clone, Copy)]
 pub enum Decoding {
-    Refused(u8),
+    Refused(Refusal),
     Asked,
     Read(Opened),
 }
 
-// An ask to open a packet that is open: its type, sequence and place, and the length of the datagram that was lent.
+// An ask to open a packet: its type, sequence and place, and the length of the datagram that was lent.
 #[derive(Clone, Copy)]
-pub enum Opening {
-    Closed,
-    Open {
-        kind: PacketType,
-        sequence: u64,
-        start: usize,
-        len: usize,
-    },
+pub struct Opening {
+    pub kind: PacketType,
+    pub sequence: u64,
+    pub start: usize,
+    pub len: usize,
 }
 
+// What a call answers, the ask that is then open, if one is, and the sender's window, if there is one.
 #[derive(Clone, Copy)]
 pub struct Decoded {
     pub answer: Decoding,
     pub ask: Ask,
-    pub opening: Opening,
-    pub guard: Guard,
+    pub opening: Option<Opening>,
+    pub guard: Option<ReplayProtection>,
 }
 
-// A datagram's type, or the number that refuses it.
+// A sealed datagram's sequence, and where its sealed part starts.
 #[derive(Clone, Copy)]
-pub enum Kind {
-    Refused(u8),
-    Of(PacketType),
+pub struct Start {
+    pub sequence: u64,
+    pub start: usize,
 }
 
-// A datagram's sequence and where its sealed part starts, or the number that refuses it.
-#[derive(Clone, Copy)]
-pub enum Start {
-    Refused(u8),
-    At { sequence: u64, start: usize },
-}
-
-// What decoding a challenge token comes to.
+// What decoding a challenge token comes to, likewise.
 #[derive(Clone, Copy)]
 pub enum Proving {
-    Refused(u8),
+    Refused(Refusal),
     Asked,
     Proved,
 }
 
-// An ask to open a challenge token that is open: where it stands, and the length of the buffer that was lent.
+// An ask to open a challenge token: where it stands, and the length of the buffer that was lent.
 #[derive(Clone, Copy)]
-pub enum ProofOpening {
-    Closed,
-    Open { at: usize, len: usize },
+pub struct ProofOpening {
+    pub at: usize,
+    pub len: usize,
 }
 
 #[derive(Clone, Copy)]
 pub struct Challenged {
     pub answer: Proving,
     pub ask: Ask,
-    pub opening: ProofOpening,
+    pub opening: Option<ProofOpening>,
     pub token: ChallengeToken,
 }

@@ -1,87 +1,83 @@
 // Decoding: what a datagram's head says, the ask to open it, and its body after the host's yes.
-ghost use Rattle.std.specs.Prelude.{◌≡◌, ◌&&◌, ◌≤◌, length};
-ghost use Rattle.bodies.specs.Kinds.{windowed};
+ghost use Rattle.std.specs.Prelude.{◌≡◌, ◌≤◌, length};
+ghost use Rattle.refusal.specs.Verdicts.{verdict};
 ghost use Rattle.decode.specs.Decodes.{ended, type_at, start_at, window_refusal, guard_refusal, guard_accepts, read_opened, decode_at, by_start, decode_sealed, decode_of, decode, answer_opened, answer_open};
 
-use crate::{Decoded, Decoding, Guard, Kind, Opened, Opening, Start};
-use asks::{NETCODE_KEY_BYTES, NETCODE_MAC_BYTES, PrivateKey, Work};
-use bodies::{Body, PacketType, TypeRead};
+use crate::{Decoded, Decoding, Opened, Opening, Start};
+use asks::{NETCODE_KEY_BYTES, NETCODE_MAC_BYTES, Work};
+use bodies::PacketType;
+use refusal::{Refusal, Why};
+use replay_protection::ReplayProtection;
 
 // The least that a datagram has, as the Rust tests it: refusal 1.
 const LEAST: usize = 2 + NETCODE_MAC_BYTES;
 
 // A datagram's type: 1 where it is under 18 bytes, 2 where there is no such type.
-pub fn read_type(datagram: &[u8]) -> Kind
+pub fn read_type(datagram: &[u8]) -> Result<PacketType, Refusal>
     ensures { result ≡ type_at datagram.now }
 {
     if datagram.len() < LEAST {
-        return Kind::Refused(1);
+        return Err(Refusal(Why::DatagramShort));
     }
     let prefix_byte = datagram[0];
-    match PacketType::from_u8(prefix::decode_prefix(prefix_byte).kind) {
-        TypeRead::Known(kind) => Kind::Of(kind),
-        TypeRead::Invalid => Kind::Refused(2),
-    }
+    PacketType::from_u8(prefix::decode_prefix(prefix_byte).kind)
 }
 
 // A sealed datagram's sequence and where its sealed part starts: 4 where the prefix claims over 8 sequence bytes.
-pub fn read_start(datagram: &[u8]) -> Start
+pub fn read_start(datagram: &[u8]) -> Result<Start, Refusal>
     requires { 18 ≤ length datagram.now }
     ensures { result ≡ start_at datagram.now }
 {
     let prefix_byte = datagram[0];
     let count = prefix::decode_prefix(prefix_byte).count;
     if count > 8 {
-        return Start::Refused(4);
+        return Err(Refusal(Why::SequenceLong));
     }
-    Start::At {
+    Ok(Start {
         sequence: prefix::sequence_of(datagram, 1, count),
         start: 1 + count,
-    }
+    })
 }
 
-// What the window says of a windowed packet's sequence: 5 or 6, 0 for none. Without a window, 5 alone.
-fn window_refusal(guard: Guard, sequence: u64) -> u8
-    ensures { result ≡ window_refusal guard sequence }
+// What the window says of a windowed packet's sequence: 5 or 6. Without a window, 5 alone.
+fn window_refusal(guard: Option<ReplayProtection>, sequence: u64) -> Result<(), Refusal>
+    ensures { result ≡ verdict (window_refusal guard sequence) }
 {
-    if guard.given {
-        return guard.window.refusal(sequence);
+    if let Some(window) = guard {
+        return window.refusal(sequence);
     }
     if sequence > 0xffff_ffff_ffff_feff {
-        5
-    } else {
-        0
+        return Err(Refusal(Why::SequenceLate));
     }
+    Ok(())
 }
 
-// The same for a packet of any type: 0 where no window guards it.
-pub fn guard_refusal(kind: PacketType, guard: Guard, sequence: u64) -> u8
-    ensures { result ≡ guard_refusal kind guard sequence }
+// The same for a packet of any type: nothing refuses it where no window guards it.
+pub fn guard_refusal(
+    kind: PacketType,
+    guard: Option<ReplayProtection>,
+    sequence: u64,
+) -> Result<(), Refusal>
+    ensures { result ≡ verdict (guard_refusal kind guard sequence) }
 {
     if kind.apply_replay_protection() {
         return window_refusal(guard, sequence);
     }
-    0
-}
-
-fn is_guarded(kind: PacketType, given: bool) -> bool
-    ensures { result ≡ given && windowed kind }
-{
-    if given {
-        return kind.apply_replay_protection();
-    }
-    false
+    Ok(())
 }
 
 // The window with the sequence accepted, if the type is windowed and there is one.
-fn guard_accepts(kind: PacketType, guard: Guard, sequence: u64) -> Guard
+fn guard_accepts(
+    kind: PacketType,
+    guard: Option<ReplayProtection>,
+    sequence: u64,
+) -> Option<ReplayProtection>
     ensures { result ≡ guard_accepts kind guard sequence }
 {
-    if is_guarded(kind, guard.given) {
-        return Guard {
-            given: guard.given,
-            window: guard.window.advance_sequence(sequence),
-        };
+    if kind.apply_replay_protection() {
+        if let Some(window) = guard {
+            return Some(window.advance_sequence(sequence));
+        }
     }
     guard
 }
@@ -98,24 +94,24 @@ pub fn read_opened(
     ensures { result ≡ read_opened kind sequence datagram.now start end }
 {
     match bodies::read(kind, datagram, start, end - start) {
-        Body::Whole(packet) => Decoding::Read(Opened {
+        Ok(packet) => Decoding::Read(Opened {
             sequence,
             packet,
             start,
             end,
         }),
-        Body::Short => Decoding::Refused(9),
+        Err(refusal) => Decoding::Refused(refusal),
     }
 }
 
 // An answer that ends the call.
-fn ended(answer: Decoding, guard: Guard) -> Decoded
+fn ended(answer: Decoding, guard: Option<ReplayProtection>) -> Decoded
     ensures { result ≡ ended answer guard }
 {
     Decoded {
         answer,
         ask: asks::no_ask(),
-        opening: Opening::Closed,
+        opening: None,
         guard,
     }
 }
@@ -128,18 +124,17 @@ fn decode_at(
     key: [u8; NETCODE_KEY_BYTES],
     sequence: u64,
     start: usize,
-    guard: Guard,
+    guard: Option<ReplayProtection>,
 ) -> Decoded
     requires { 18 ≤ length datagram.now }
     ensures { result ≡ decode_at datagram.now kind protocol_id key sequence start guard }
 {
-    let refusal = guard_refusal(kind, guard, sequence);
-    if refusal != 0 {
+    if let Err(refusal) = guard_refusal(kind, guard, sequence) {
         return ended(Decoding::Refused(refusal), guard);
     }
     let len = datagram.len();
     if asks::past(len, start, NETCODE_MAC_BYTES) {
-        return ended(Decoding::Refused(7), guard);
+        return ended(Decoding::Refused(Refusal(Why::TagMissing)), guard);
     }
     let prefix_byte = datagram[0];
     Decoded {
@@ -153,12 +148,12 @@ fn decode_at(
             start,
             len,
         ),
-        opening: Opening::Open {
+        opening: Some(Opening {
             kind,
             sequence,
             start,
             len,
-        },
+        }),
         guard,
     }
 }
@@ -169,16 +164,22 @@ fn decode_keyed(
     kind: PacketType,
     protocol_id: u64,
     key: [u8; NETCODE_KEY_BYTES],
-    guard: Guard,
+    guard: Option<ReplayProtection>,
 ) -> Decoded
     requires { 18 ≤ length datagram.now }
     ensures { result ≡ by_start datagram.now kind protocol_id key guard (start_at datagram.now) }
 {
     match read_start(datagram) {
-        Start::Refused(number) => ended(Decoding::Refused(number), guard),
-        Start::At { sequence, start } => {
-            decode_at(datagram, kind, protocol_id, key, sequence, start, guard)
-        }
+        Ok(head) => decode_at(
+            datagram,
+            kind,
+            protocol_id,
+            key,
+            head.sequence,
+            head.start,
+            guard,
+        ),
+        Err(refusal) => ended(Decoding::Refused(refusal), guard),
     }
 }
 
@@ -187,17 +188,16 @@ fn decode_sealed(
     datagram: &[u8],
     kind: PacketType,
     protocol_id: u64,
-    private_key: PrivateKey,
-    guard: Guard,
+    private_key: Option<[u8; NETCODE_KEY_BYTES]>,
+    guard: Option<ReplayProtection>,
 ) -> Decoded
     requires { 18 ≤ length datagram.now }
     ensures { result ≡ decode_sealed datagram.now kind protocol_id private_key guard }
 {
-    let key = private_key.bytes;
-    if private_key.given {
-        return decode_keyed(datagram, kind, protocol_id, key, guard);
+    match private_key {
+        Some(key) => decode_keyed(datagram, kind, protocol_id, key, guard),
+        None => ended(Decoding::Refused(Refusal(Why::Stranger)), guard),
     }
-    ended(Decoding::Refused(3), guard)
 }
 
 // A request is read in clear, after its prefix byte.
@@ -205,8 +205,8 @@ fn decode_of(
     datagram: &[u8],
     kind: PacketType,
     protocol_id: u64,
-    private_key: PrivateKey,
-    guard: Guard,
+    private_key: Option<[u8; NETCODE_KEY_BYTES]>,
+    guard: Option<ReplayProtection>,
 ) -> Decoded
     requires { 18 ≤ length datagram.now }
     ensures { result ≡ decode_of datagram.now kind protocol_id private_key guard }
@@ -219,36 +219,37 @@ fn decode_of(
 }
 
 // A datagram, with the key and the window of its sender, if they are there: refused, or read, or to be opened.
-pub fn decode(datagram: &[u8], protocol_id: u64, private_key: PrivateKey, guard: Guard) -> Decoded
+pub fn decode(
+    datagram: &[u8],
+    protocol_id: u64,
+    private_key: Option<[u8; NETCODE_KEY_BYTES]>,
+    guard: Option<ReplayProtection>,
+) -> Decoded
     ensures { result ≡ decode datagram.now protocol_id private_key guard }
 {
     match read_type(datagram) {
-        Kind::Refused(number) => ended(Decoding::Refused(number), guard),
-        Kind::Of(kind) => decode_of(datagram, kind, protocol_id, private_key, guard),
+        Ok(kind) => decode_of(datagram, kind, protocol_id, private_key, guard),
+        Err(refusal) => ended(Decoding::Refused(refusal), guard),
     }
 }
 
 fn answer_opened(
-    kind: PacketType,
-    sequence: u64,
-    start: usize,
-    len: usize,
+    opening: Opening,
     datagram: &[u8],
-    guard: Guard,
+    guard: Option<ReplayProtection>,
     granted: bool,
 ) -> Decoded
-    ensures { result ≡ answer_opened kind sequence start len datagram.now guard granted }
+    ensures { result ≡ answer_opened opening.kind opening.sequence opening.start opening.len datagram.now guard granted }
 {
+    let kind = opening.kind;
+    let sequence = opening.sequence;
+    let start = opening.start;
+    let len = opening.len;
     if asks::unlike(start, NETCODE_MAC_BYTES, len, datagram.len()) {
         return Decoded {
-            answer: Decoding::Refused(18),
+            answer: Decoding::Refused(Refusal(Why::AnswerUnfit)),
             ask: asks::no_ask(),
-            opening: Opening::Open {
-                kind,
-                sequence,
-                start,
-                len,
-            },
+            opening: Some(opening),
             guard,
         };
     }
@@ -259,20 +260,20 @@ fn answer_opened(
             accepted,
         );
     }
-    ended(Decoding::Refused(8), guard)
+    ended(Decoding::Refused(Refusal(Why::NotOpened)), guard)
 }
 
-// The host's answer to an ask to open. The window moves after a yes alone, and before the body is read.
-pub fn answer_open(opening: Opening, datagram: &[u8], guard: Guard, granted: bool) -> Decoded
+// The host's answer to the ask that is open: 17 where none is. The window moves after a yes alone, and before the body is read.
+pub fn answer_open(
+    opening: Option<Opening>,
+    datagram: &[u8],
+    guard: Option<ReplayProtection>,
+    granted: bool,
+) -> Decoded
     ensures { result ≡ answer_open opening datagram.now guard granted }
 {
     match opening {
-        Opening::Closed => ended(Decoding::Refused(17), guard),
-        Opening::Open {
-            kind,
-            sequence,
-            start,
-            len,
-        } => answer_opened(kind, sequence, start, len, datagram, guard, granted),
+        Some(ask) => answer_opened(ask, datagram, guard, granted),
+        None => ended(Decoding::Refused(Refusal(Why::NoAsk)), guard),
     }
 }

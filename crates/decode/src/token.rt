@@ -5,6 +5,7 @@ ghost use Rattle.decode.specs.Challenges.{no_token, unproved, decode_challenge, 
 use crate::{Challenged, ProofOpening, Proving};
 use asks::{NETCODE_KEY_BYTES, Work};
 use bodies::{ChallengeToken, NETCODE_CHALLENGE_TOKEN_BYTES, NETCODE_USER_DATA_BYTES};
+use refusal::{Refusal, Why};
 
 fn no_token() -> ChallengeToken
     ensures { result ≡ no_token }
@@ -13,11 +14,11 @@ fn no_token() -> ChallengeToken
 }
 
 // An answer without a token.
-fn unproved(number: u8, opening: ProofOpening) -> Challenged
-    ensures { result ≡ unproved number opening }
+fn unproved(refusal: Refusal, opening: Option<ProofOpening>) -> Challenged
+    ensures { result ≡ unproved refusal opening }
 {
     Challenged {
-        answer: Proving::Refused(number),
+        answer: Proving::Refused(refusal),
         ask: asks::no_ask(),
         opening,
         token: no_token(),
@@ -35,7 +36,7 @@ pub fn decode_challenge(
 {
     let room = token_data.len();
     if asks::past(room, at, NETCODE_CHALLENGE_TOKEN_BYTES) {
-        return unproved(9, ProofOpening::Closed);
+        return unproved(Refusal(Why::BodyShort), None);
     }
     Challenged {
         answer: Proving::Asked,
@@ -46,34 +47,44 @@ pub fn decode_challenge(
             at,
             at + NETCODE_CHALLENGE_TOKEN_BYTES,
         ),
-        opening: ProofOpening::Open { at, len: room },
+        opening: Some(ProofOpening { at, len: room }),
         token: no_token(),
     }
 }
 
-fn answer_proof(at: usize, len: usize, token_data: &[u8], granted: bool) -> Challenged
-    ensures { result ≡ answer_proof at len token_data.now granted }
+fn answer_proof(opening: ProofOpening, token_data: &[u8], granted: bool) -> Challenged
+    ensures { result ≡ answer_proof opening.at opening.len token_data.now granted }
 {
-    if asks::unlike(at, NETCODE_CHALLENGE_TOKEN_BYTES, len, token_data.len()) {
-        return unproved(18, ProofOpening::Open { at, len });
+    let at = opening.at;
+    if asks::unlike(
+        at,
+        NETCODE_CHALLENGE_TOKEN_BYTES,
+        opening.len,
+        token_data.len(),
+    ) {
+        return unproved(Refusal(Why::AnswerUnfit), Some(opening));
     }
     if granted {
         return Challenged {
             answer: Proving::Proved,
             ask: asks::no_ask(),
-            opening: ProofOpening::Closed,
+            opening: None,
             token: ChallengeToken::read(token_data, at),
         };
     }
-    unproved(8, ProofOpening::Closed)
+    unproved(Refusal(Why::NotOpened), None)
 }
 
-// The host's answer to an ask to open a challenge token.
-pub fn answer_challenge(opening: ProofOpening, token_data: &[u8], granted: bool) -> Challenged
+// The host's answer to the ask to open a challenge token that is open: 17 where none is.
+pub fn answer_challenge(
+    opening: Option<ProofOpening>,
+    token_data: &[u8],
+    granted: bool,
+) -> Challenged
     ensures { result ≡ answer_challenge opening token_data.now granted }
 {
     match opening {
-        ProofOpening::Closed => unproved(17, ProofOpening::Closed),
-        ProofOpening::Open { at, len } => answer_proof(at, len, token_data, granted),
+        Some(ask) => answer_proof(ask, token_data, granted),
+        None => unproved(Refusal(Why::NoAsk), None),
     }
 }

@@ -1,5 +1,6 @@
 -- A datagram changes nothing that is seen: it sets a received time at most. If it ends in an ask for a packet, that is for a record in use
 -- whose window does not refuse it.
+use Rattle.std.specs.Prelude.{Result, Ok, Err}
 use mathlib.Core.Path.{◌≡◌, refl, ap, ◌∙◌}
 use mathlib.Core.Bool.{true, false}
 use Prim.Native.Nat.{ℕ, ◌<◌}
@@ -19,10 +20,7 @@ use Rattle.places.specs.Columns as columns
 use Rattle.places.specs.Keys.{LowestOf, Keyed}
 use Rattle.places.specs.Finds.{find_address}
 use Rattle.places.proofs.Searches.{address_found}
-use Rattle.decode.specs.declared.Kind.{Kind}
-use Rattle.decode.specs.declared.Kind.TheVariants as kindly
 use Rattle.decode.specs.declared.Start.{Start}
-use Rattle.decode.specs.declared.Start.TheVariants as starting
 use Rattle.decode.specs.Decodes.{type_at, start_at}
 use Rattle.server.specs.declared.Stage.{Stage}
 use Rattle.server.specs.declared.Stage.TheVariants.{Idle}
@@ -121,22 +119,22 @@ module _ (t : State) (good : Good t) (idle : t.server.ask.stage ≡ Idle)
               (fits (seen u) (Pend j) t.pending m j kind sequence (seen_pend u v j ∙ view_inside t.pending m j h) used w);
         }
 
-    sealed_slot : (i : ℕ) (kind : PacketType) → i < t.server.set.slots → used_at t.slots i ≡ true → (x : Start)
+    sealed_slot : (i : ℕ) (kind : PacketType) → i < t.server.set.slots → used_at t.slots i ≡ true → (x : Result Start ℕ)
         → Turns t (by_start t.server t.slots t.server.set.slots true i kind out d x)
     unfolding by_start sealed_at
-    sealed_slot i kind h used (starting.Refused n) = stop n
-    sealed_slot i kind h used (starting.At sequence start) =
+    sealed_slot i kind h used (Err n) = stop n
+    sealed_slot i kind h used (Ok p) =
         pick_all (Turns t) _
-        (λ w. pick_all (Turns t) _ (λ _. stop 7) (λ _. asks_slot i kind sequence start h used (eqb-true _ 0 w)))
+        (λ w. pick_all (Turns t) _ (λ _. stop 7) (λ _. asks_slot i kind p.sequence p.start h used (eqb-true _ 0 w)))
         (λ _. stop _)
 
-    sealed_pend : (j : ℕ) (kind : PacketType) → j < t.server.set.pending → used_at t.pending j ≡ true → (x : Start)
+    sealed_pend : (j : ℕ) (kind : PacketType) → j < t.server.set.pending → used_at t.pending j ≡ true → (x : Result Start ℕ)
         → Turns t (by_start t.server t.pending t.server.set.pending false j kind out d x)
     unfolding by_start sealed_at
-    sealed_pend j kind h used (starting.Refused n) = stop n
-    sealed_pend j kind h used (starting.At sequence start) =
+    sealed_pend j kind h used (Err n) = stop n
+    sealed_pend j kind h used (Ok p) =
         pick_all (Turns t) _
-        (λ w. pick_all (Turns t) _ (λ _. stop 7) (λ _. asks_pend j kind sequence start h used (eqb-true _ 0 w)))
+        (λ w. pick_all (Turns t) _ (λ _. stop 7) (λ _. asks_pend j kind p.sequence p.start h used (eqb-true _ 0 w)))
         (λ _. stop _)
 
     module _ (addr : Address) where
@@ -176,10 +174,10 @@ module _ (t : State) (good : Good t) (idle : t.server.ask.stage ≡ Idle)
           request_reads _ (time_unseen t.pending m j pending k.below 9 t.server.current_time (omega arith) (omega arith))
       request_does Unknown e = request_reads t.pending (unseen_refl t.server.set.pending t.pending)
 
-      kind_does : (kind : Kind) → Meets t (by_kind t addr out d kind)
+      kind_does : (kind : Result PacketType ℕ) → Meets t (by_kind t addr out d kind)
       unfolding by_kind kind_arrives
-      kind_does (kindly.Refused n) = calm n
-      kind_does (kindly.Of kind) =
+      kind_does (Err n) = calm n
+      kind_does (Ok kind) =
           pick_all (Meets t) _
           (λ _. pick_all (Meets t) _ (λ _. calm 9) (λ _. request_does (sender_in t addr) refl))
           (λ _. record { is = (sealed_does kind (sender_in t addr) refl).is })

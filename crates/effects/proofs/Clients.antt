@@ -1,5 +1,6 @@
 -- A client's update and its sending away end its record exactly where they should, and the answer to the ask that they leave takes nothing back:
 -- each way through their definitions, over any record and any tables.
+use Rattle.std.specs.Prelude.{Option, Some, None}
 use mathlib.Core.Path.{◌≡◌, refl, sym, ap, ◌∙◌}
 use mathlib.Core.Bool.{Bool, true, false}
 use mathlib.Core.Logic.{◌↔◌}
@@ -7,8 +8,6 @@ use Prim.Native.Nat.{ℕ}
 use mathlib.Core.List.{List}
 use lib.ListN.{length}
 use borrow.Author.Tests.{eq-eqb}
-use Rattle.serialize.specs.declared.Found.{Found}
-use Rattle.serialize.specs.declared.Found.TheVariants.{At}
 use Rattle.serialize.specs.Choice.{pick}
 use Rattle.serialize.proofs.Choice.{by_test}
 use Rattle.addresses.specs.declared.Address.{Address}
@@ -56,31 +55,31 @@ module _ (s : NetcodeServer) (id : ℕ) (slots : List ℕ) (i : ℕ) (addr : Add
 
 module _ (s : NetcodeServer) (slots : List ℕ) (id : ℕ) (out : List ℕ) (ready : ready_refusal s (length slots) ≡ 0) where
   -- by what the id finds
-  update_by : (x : Found) → find_id slots s.set.slots id ≡ x → client_updated s slots id out ≡ updated_at s id slots out x
+  update_by : (x : Option ℕ) → find_id slots s.set.slots id ≡ x → client_updated s slots id out ≡ updated_at s id slots out x
   unfolding client_updated
   update_by x e = pick_true _ _ _ (eq-eqb (ready_refusal s (length slots)) 0 ready) ∙ ap (updated_at s id slots out) e
 
-  disconnect_by : (x : Found) → find_id slots s.set.slots id ≡ x → disconnected s slots id out ≡ ended_at s id slots out x
+  disconnect_by : (x : Option ℕ) → find_id slots s.set.slots id ≡ x → disconnected s slots id out ≡ ended_at s id slots out x
   unfolding disconnected
   disconnect_by x e = pick_true _ _ _ (eq-eqb (ready_refusal s (length slots)) 0 ready) ∙ ap (ended_at s id slots out) e
 
-  module _ (i : ℕ) (found : find_id slots s.set.slots id ≡ At i) where
+  module _ (i : ℕ) (found : find_id slots s.set.slots id ≡ Some i) where
     -- a client sent away: its slot is empty, unless the output is too short
     pub disconnect_empties : ((disconnected s slots id out).turn.answer ≡ Refused 14 → ⊥) → (disconnected s slots id out).slots ≡ emptied slots i
     unfolding ended_at
-    disconnect_empties = rw (disconnect_by (At i) found) (ending_empties s id slots i _ _ _ out)
+    disconnect_empties = rw (disconnect_by (Some i) found) (ending_empties s id slots i _ _ _ out)
 
     -- an update of a client that is overdue: the same
     pub overdue_empties : overdue s slots i ≡ true → ((client_updated s slots id out).turn.answer ≡ Refused 14 → ⊥)
         → (client_updated s slots id out).slots ≡ emptied slots i
     unfolding updated_at slot_updated
-    overdue_empties late = rw (update_by (At i) found ∙ pick_true _ _ _ late) (ending_empties s id slots i _ _ _ out)
+    overdue_empties late = rw (update_by (Some i) found ∙ pick_true _ _ _ late) (ending_empties s id slots i _ _ _ out)
 
     -- of one that is not: the slots are as they were, a keep-alive or not
     pub not_overdue_keeps : overdue s slots i ≡ false → (client_updated s slots id out).slots ≡ slots
     unfolding updated_at slot_updated
     not_overdue_keeps early =
-        ap (λ (x : Served). x.slots) (update_by (At i) found ∙ pick_false _ _ _ early)
+        ap (λ (x : Served). x.slots) (update_by (Some i) found ∙ pick_false _ _ _ early)
         ∙ pick_all (λ (x : Served). x.slots ≡ slots) _ (λ _. refl) (λ _. refl)
 
     -- AN UPDATE ENDS A RECORD EXACTLY WHERE IT IS OVERDUE (document 01, `update_client`: timeout over 0 and received + timeout < now)
@@ -109,8 +108,8 @@ module _ (t : State) (held : List ℕ) (out sequence end : ℕ) (taken : seal_re
   -- AN ENDING IS FINAL: whatever the host answers, both tables are as the call left them, where the slot is empty. The answer tells id and address,
   -- after a yes with the packet's end, after a no with 24 and no packet (document 01, "When the server says no": no packet comes).
   pub ending_is_final : (id : ℕ) (addr : Address) → t.server.ask.stage ≡ Seal (Ending id addr) sequence end
-      → (seals t true held out ≡ leaves t (closed t.server (ClientDisconnected id addr end 0)))
-      × (seals t false held out ≡ leaves t (closed t.server (ClientDisconnected id addr 0 24)))
+      → (seals t true held out ≡ leaves t (closed t.server (ClientDisconnected id addr end None)))
+      × (seals t false held out ≡ leaves t (closed t.server (ClientDisconnected id addr 0 (Some 24))))
   unfolding sealed unsealed
   ending_is_final id addr on = answer_by (Ending id addr) on
 

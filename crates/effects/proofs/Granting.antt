@@ -1,5 +1,6 @@
 -- An answer about a private token makes no record yet: it drops a pending place at most. If it ends in an ask to seal a challenge, no slot has
 -- the sender's address.
+use Rattle.std.specs.Prelude.{Option, Some, None}
 use mathlib.Core.Path.{◌≡◌, refl, sym, ap, ◌∙◌}
 use mathlib.Core.Bool.{Bool, true, false}
 use Prim.Native.Nat.{ℕ, ◌<◌}
@@ -8,8 +9,6 @@ use mathlib.Core.List.{List}
 use lib.ListN.{length}
 use lib.Dec.{eqb, ltb}
 use borrow.Author.Tests.{eqb-true, ltb-true}
-use Rattle.serialize.specs.declared.Found.{Found}
-use Rattle.serialize.specs.declared.Found.TheVariants.{At, Nothing}
 use Rattle.serialize.specs.Choice.{pick}
 use Rattle.addresses.specs.declared.Address.{Address}
 use Rattle.addresses.specs.Addresses.{is_found}
@@ -39,10 +38,10 @@ use Rattle.effects.specs.Calls.{Grants, replied}
 use Rattle.effects.proofs.Seen.{pick_all, both_false, Settled, seen_slot, inside_same, all_same, pend_changes, still, unchanged}
 
 -- a search that found nothing
-not_found : (x : Found) → is_found x ≡ false → x ≡ Nothing
+not_found : (x : Option ℕ) → is_found x ≡ false → x ≡ None
 unfolding is_found
-not_found (At i) e = absurd (true_false refl e)
-not_found Nothing e = refl
+not_found (Some i) e = absurd (true_false refl e)
+not_found None e = refl
 
 module _ (t : State) (settled : Settled t) (slots : Shaped t.slots t.server.set.slots) (pending : Shaped t.pending t.server.set.pending) where
   -- the record after a step: the same set-up, no record on its way
@@ -90,7 +89,7 @@ module _ (t : State) (settled : Settled t) (slots : Shaped t.slots t.server.set.
       (λ _. record { set = refl; none = λ j. refl; asks = λ u f g. omega arith })
 
   -- no slot has the address
-  unconnected : (addr : Address) → find_address t.slots t.server.set.slots addr ≡ Nothing → (u : State) → u.server.set ≡ t.server.set → u.slots ≡ t.slots → Unconnected (seen u) addr
+  unconnected : (addr : Address) → find_address t.slots t.server.set.slots addr ≡ None → (u : State) → u.server.set ≡ t.server.set → u.slots ≡ t.slots → Unconnected (seen u) addr
   unconnected addr none u f e i used at =
       let n = t.server.set.slots in
       let v : seen u (Slot i) ≡ view_at t.slots n i = seen_slot u i ∙ ap (λ (x : _). view_at u.slots x.slots i) f ∙ ap (λ (l : List ℕ). view_at l n i) e in
@@ -99,7 +98,7 @@ module _ (t : State) (settled : Settled t) (slots : Shaped t.slots t.server.set.
       let k = view_inside t.slots n i h in
       (address_none t.slots n slots addr).0 none i h (ap (λ (x : View). x.used) (sym k) ∙ w, ap (λ (x : View). x.addr) (sym k ∙ sym v) ∙ at)
 
-  module _ (addr : Address) (none : find_address t.slots t.server.set.slots addr ≡ Nothing) where
+  module _ (addr : Address) (none : find_address t.slots t.server.set.slots addr ≡ None) where
     sends : (s : NetcodeServer) → s.set ≡ t.server.set → (datagram expiry : ℕ) (p : PrivateConnectToken) (held out : List ℕ)
         → Step (challenge_sent s datagram addr expiry p held out).turn.server
     unfolding challenge_sent with_ask
@@ -115,10 +114,10 @@ module _ (t : State) (settled : Settled t) (slots : Shaped t.slots t.server.set.
         (λ _. over t.server (answer.Refused 15) refl)
         (λ _. sends _ refl datagram expiry p held out)
 
-    drops : (x : Found) → find_address t.pending t.server.set.pending addr ≡ x → Left (dropped t.pending x)
+    drops : (x : Option ℕ) → find_address t.pending t.server.set.pending addr ≡ x → Left (dropped t.pending x)
     unfolding dropped
-    drops (At j) e = without j ((address_found t.pending t.server.set.pending pending addr j).0 e).below
-    drops Nothing e = same
+    drops (Some j) e = without j ((address_found t.pending t.server.set.pending pending addr j).0 e).below
+    drops None e = same
 
     record Meets (m : Met) : Type 0 where
       is : Does t None (state m.turn.server t.slots m.pending)

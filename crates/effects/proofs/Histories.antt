@@ -1,5 +1,6 @@
 -- From set-up on, whatever is called, used addresses are distinct: every call has an effect that the law allows, and the law keeps them apart.
 -- The calls are all that change anything, so this is of every state that is reached from set-up.
+use Rattle.std.specs.Prelude.{Result, Ok, Err}
 use mathlib.Core.Path.{◌≡◌, refl, sym, ap, ◌∙◌}
 use mathlib.Core.Bool.{true}
 use Prim.Native.Nat.{ℕ, zero, suc, ◌<◌, min}
@@ -10,8 +11,6 @@ use lib.Dec.{eqb, ltb}
 use borrow.Author.Tests.{eqb-true, eqb-false, ltb-true}
 use Rattle.serialize.proofs.Choice.{by_test}
 use Rattle.times.specs.declared.Time.{Time}
-use Rattle.times.specs.declared.Added.{Added}
-use Rattle.times.specs.declared.Added.TheVariants.{Clock, OutOfRange}
 use Rattle.times.specs.Times.{added}
 use Rattle.places.specs.Layout.{Shaped, used_at}
 use Rattle.places.specs.Columns as columns
@@ -77,17 +76,17 @@ module _ (t : State) (good : Good t) where
       let x : seen u (Pend j) ≡ view_at (dropped t.pending m secs) m j = seen_pend u v j ∙ ap (λ (y : _). view_at u.pending y.pending j) same ∙ ap (λ (l : List ℕ). view_at l m j) f in
       rw (x, seen_pend t (stage_settled t idle) j) (dropped_stays t.pending m secs shape j)
 
-  clock_does : t.server.ask.stage ≡ stage.Idle → Shaped t.pending t.server.set.pending → (x : Added)
+  clock_does : t.server.ask.stage ≡ stage.Idle → Shaped t.pending t.server.set.pending → (x : Result Time ℕ)
       → Does t None (state (by_clock t.server t.pending x).result.server t.slots (by_clock t.server t.pending x).pending)
   unfolding by_clock with_clock
-  clock_does idle shape (Clock c) =
+  clock_does idle shape (Ok c) =
       let u = state (with_clock t.server c) t.slots (dropped t.pending t.server.set.pending c.secs) in
       record {
         places = inside_same t u refl;
         effect = kept refl (clock_stays idle shape u c.secs refl (stage_settled u idle) refl refl);
         ask = nothing_asked u idle;
       }
-  clock_does idle shape OutOfRange = unchanged t good.ask
+  clock_does idle shape (Err n) = unchanged t good.ask
 
   updates_does : (duration : Time) → Does t None (next t (Updates duration))
   unfolding next updated

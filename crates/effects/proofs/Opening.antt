@@ -1,5 +1,6 @@
 -- A yes to a packet moves the window of the record that it is for and no other; a yes to a challenge empties the pending place, whose record
 -- stands until the keep-alive is sealed; a no leaves every place as it was.
+use Rattle.std.specs.Prelude.{Option, Some, None, Result, Ok, Err}
 use mathlib.Core.Path.{◌≡◌, refl, sym, ap, ◌∙◌}
 use mathlib.Core.Bool.{Bool, true, false}
 use Prim.Native.Nat.{ℕ, ◌+◌, ◌-◌, ◌<◌}
@@ -8,15 +9,11 @@ use mathlib.Core.List.{List}
 use lib.ListN.{length}
 use lib.Dec.{eqb, ltb, leb}
 use borrow.Author.Tests.{eqb-true, eqb-false, leb-false, lt-ltb}
-use Rattle.serialize.specs.declared.Found.{Found}
-use Rattle.serialize.specs.declared.Found.TheVariants.{At, Nothing}
 use Rattle.serialize.specs.Choice.{pick}
 use Rattle.serialize.proofs.Choice.{by_test}
 use Rattle.bodies.specs.declared.PacketType.{PacketType}
 use Rattle.bodies.specs.declared.Packet.{Packet}
 use Rattle.bodies.specs.declared.Packet.TheVariants as packet
-use Rattle.bodies.specs.declared.Body.{Body}
-use Rattle.bodies.specs.declared.Body.TheVariants.{Whole, Short}
 use Rattle.bodies.specs.declared.challenge.ChallengeToken.{ChallengeToken}
 use Rattle.bodies.specs.Kinds.{windowed}
 use Rattle.bodies.specs.Tokens.{token_at}
@@ -161,15 +158,15 @@ module _ (t : State) (good : Good t) (settled : Settled t)
       said packet.Payload = record { server = refl; table = becomes_unseen b (store_unseen t1 t.server.set.slots i s1 h 0 1 (omega arith) (λ e. omega arith)) }
       said packet.Disconnect = record { server = refl; table = becomes_empty s1 h b }
 
-    bodied : (start end : ℕ) (body : Body) → SlotDone (slot_body t.server (accepted t.slots t.server.set.slots i kind sequence) t.server.set.slots i start end body)
+    bodied : (start end : ℕ) (body : Result Packet ℕ) → SlotDone (slot_body t.server (accepted t.slots t.server.set.slots i kind sequence) t.server.set.slots i start end body)
     unfolding slot_body
-    bodied start end (Whole p) =
+    bodied start end (Ok p) =
         let n = t.server.set.slots in
         let a = accepted t.slots n i kind sequence in
         let s = shaped_kept (accepted_long t.slots n i slots h kind sequence) slots in
         let k = time_unseen a n i s h 9 t.server.current_time (omega arith) (omega arith) in
         said start end (touched t.server a n i) (shaped_kept k.long s) (becomes_unseen (accepted_becomes t.slots n i slots h kind sequence) k) p
-    bodied start end Short = record { server = refl; table = accepted_becomes t.slots t.server.set.slots i slots h kind sequence }
+    bodied start end (Err r) = record { server = refl; table = accepted_becomes t.slots t.server.set.slots i slots h kind sequence }
 
     pub slot_does : (start : ℕ) (d : List ℕ) → Does t (pick (windowed kind) (Took (Slot i) sequence) None) (from_slot t (slot_heard t.server t.slots i kind sequence start d)).state
     unfolding slot_heard
@@ -224,21 +221,21 @@ module _ (t : State) (good : Good t) (settled : Settled t)
       responds packet.Payload = quiet answer.Nothing
       responds packet.Disconnect = quiet answer.Nothing
 
-    pend_bodied : (start datagram out : ℕ) (body : Body)
+    pend_bodied : (start datagram out : ℕ) (body : Result Packet ℕ)
         → Does t (pick (windowed kind) (Took (Pend j) sequence) None)
         (from_pending t (pending_body t.server (accepted t.pending t.server.set.pending j kind sequence) t.server.set.pending j start datagram out body)).state
     unfolding pending_body
-    pend_bodied start datagram out (Whole p) =
+    pend_bodied start datagram out (Ok p) =
         let m = t.server.set.pending in
         let a = accepted t.pending m j kind sequence in
         let s = shaped_kept (accepted_long t.pending m j pending h kind sequence) pending in
         let k = time_unseen a m j s h 9 t.server.current_time (omega arith) (omega arith) in
         responds start datagram out (touched t.server a m j)
         (k.same j ∙ accepted_view t.pending m j pending h kind sequence) (λ q d. k.same q ∙ accepted_else t.pending m j pending h kind sequence q d) p
-    pend_bodied start datagram out Short =
+    pend_bodied start datagram out (Err r) =
         let m = t.server.set.pending in
         quiet start datagram out (accepted t.pending m j kind sequence) (accepted_view t.pending m j pending h kind sequence) (accepted_else t.pending m j pending h kind sequence)
-        (answer.Refused 9)
+        (answer.Refused r)
 
     pub pend_does : (start out : ℕ) (d : List ℕ)
         → Does t (pick (windowed kind) (Took (Pend j) sequence) None) (from_pending t (pending_heard t.server t.pending j kind sequence start out d)).state
@@ -266,7 +263,7 @@ module _ (t : State) (good : Good t) (settled : Settled t)
         }
 
     -- the record is on its way to slot i: it stands where it stood
-    module _ (i : ℕ) (free : find_free t.slots t.server.set.slots ≡ At i) (u : State)
+    module _ (i : ℕ) (free : find_free t.slots t.server.set.slots ≡ Some i) (u : State)
         (same : u.server.set ≡ t.server.set) (e : u.slots ≡ t.slots) (f : u.pending ≡ left)
         (sequence end : ℕ) (on : u.server.ask.stage ≡ stage.Seal (goal.Connecting j i) sequence end) where
       pends : (q : ℕ) → seen u (Pend q) ≡ pick (eqb j q) (standing (view_at left t.server.set.pending q)) (view_at left t.server.set.pending q)
@@ -327,7 +324,7 @@ module _ (t : State) (good : Good t) (settled : Settled t)
           (λ _. parts _ refl (λ k. refl) (λ ins f. omega arith));
     }
 
-    connects : (datagram : ℕ) (held out : List ℕ) (i : ℕ) → find_free t.slots t.server.set.slots ≡ At i → (key : List ℕ) (sequence : ℕ) (token : ChallengeToken)
+    connects : (datagram : ℕ) (held out : List ℕ) (i : ℕ) → find_free t.slots t.server.set.slots ≡ Some i → (key : List ℕ) (sequence : ℕ) (token : ChallengeToken)
         → Answers (connecting t.server datagram held out j i key sequence token)
     unfolding connecting with_ask
     connects datagram held out i free key sequence token =
@@ -335,16 +332,16 @@ module _ (t : State) (good : Good t) (settled : Settled t)
         (λ _. record { is = over_parts (answer.Refused 15) })
         (λ _. record { is = on_its_way i free _ refl refl refl sequence _ refl })
 
-    by_free_lem : (datagram : ℕ) (held out : List ℕ) (token : ChallengeToken) (x : Found) → find_free t.slots t.server.set.slots ≡ x
+    by_free_lem : (datagram : ℕ) (held out : List ℕ) (token : ChallengeToken) (x : Option ℕ) → find_free t.slots t.server.set.slots ≡ x
         → Answers (by_free t.server datagram left held out j token x)
     unfolding by_free
-    by_free_lem datagram held out token (At i) e = connects datagram held out i e _ _ token
-    by_free_lem datagram held out token Nothing e = denies datagram held out _ _
+    by_free_lem datagram held out token (Some i) e = connects datagram held out i e _ _ token
+    by_free_lem datagram held out token None e = denies datagram held out _ _
 
-    by_id_lem : (datagram : ℕ) (held out : List ℕ) (token : ChallengeToken) (x : Found) → Answers (by_id t.server datagram t.slots left held out j token x)
+    by_id_lem : (datagram : ℕ) (held out : List ℕ) (token : ChallengeToken) (x : Option ℕ) → Answers (by_id t.server datagram t.slots left held out j token x)
     unfolding by_id
-    by_id_lem datagram held out token (At k) = record { is = over_parts answer.Nothing }
-    by_id_lem datagram held out token Nothing = by_free_lem datagram held out token (find_free t.slots t.server.set.slots) refl
+    by_id_lem datagram held out token (Some k) = record { is = over_parts answer.Nothing }
+    by_id_lem datagram held out token None = by_free_lem datagram held out token (find_free t.slots t.server.set.slots) refl
 
     pub response_does : (held out : List ℕ) (at : ℕ) (d : List ℕ) → Does t None (from_response t j (responded t.server t.slots t.pending held out j at d)).outcome.state
     unfolding responded

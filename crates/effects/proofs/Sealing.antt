@@ -1,5 +1,6 @@
 -- A sealed challenge makes the sender's record at a free pending place, or moves the two times of the one that it has; a sealed first
 -- keep-alive moves the record that was on its way to its slot; no other seal changes what is seen, and a no ends the record on its way.
+use Rattle.std.specs.Prelude.{Option, Some, None}
 use mathlib.Core.Path.{◌≡◌, refl, sym, ap, ◌∙◌}
 use mathlib.Core.Bool.{Bool, true, false}
 use Prim.Native.Nat.{ℕ, ◌+◌, ◌<◌}
@@ -8,8 +9,6 @@ use mathlib.Core.List.{List}
 use lib.ListN.{length, set, length-replicate}
 use lib.Dec.{eqb, leb}
 use borrow.Author.Tests.{eqb-true, eqb-false, ltb-true, leb-false, lt-ltb, eq-eqb, ne_eqb}
-use Rattle.serialize.specs.declared.Found.{Found}
-use Rattle.serialize.specs.declared.Found.TheVariants.{At, Nothing}
 use Rattle.serialize.specs.Choice.{pick}
 use Rattle.serialize.specs.Runs.{splice}
 use Rattle.serialize.specs.Le.{words}
@@ -77,7 +76,7 @@ module _ (t : State) (good : Good t) (slots : Shaped t.slots t.server.set.slots)
     -- ---- the challenge is sealed
 
     -- the address is that of no record: it stands at no slot and was not found among the pending
-    nobody_has : (addr : Address) → Unconnected (seen t) addr → find_address t.pending t.server.set.pending addr ≡ Nothing
+    nobody_has : (addr : Address) → Unconnected (seen t) addr → find_address t.pending t.server.set.pending addr ≡ None
         → (q : Place) → (seen t q).used ≡ true → (seen t q).addr ≡ words_of addr → ⊥
     nobody_has addr free none (Slot i) used at = free i used at
     nobody_has addr free none (Pend j) used at =
@@ -105,7 +104,7 @@ module _ (t : State) (good : Good t) (slots : Shaped t.slots t.server.set.slots)
       asks_u p = omega arith
 
       -- a free place takes the newcomer
-      takes : (j : ℕ) → find_free t.pending t.server.set.pending ≡ At j → find_address t.pending t.server.set.pending addr ≡ Nothing
+      takes : (j : ℕ) → find_free t.pending t.server.set.pending ≡ Some j → find_address t.pending t.server.set.pending addr ≡ None
           → Does t None (u (filled t.pending t.server.set.pending j (newcomer held addr time)))
       takes j e none =
           let m = t.server.set.pending in
@@ -128,23 +127,23 @@ module _ (t : State) (good : Good t) (slots : Shaped t.slots t.server.set.slots)
             ask = asks_u p;
           }
 
-      by_free_lem : find_address t.pending t.server.set.pending addr ≡ Nothing → (x : Found) → find_free t.pending t.server.set.pending ≡ x
+      by_free_lem : find_address t.pending t.server.set.pending addr ≡ None → (x : Option ℕ) → find_free t.pending t.server.set.pending ≡ x
           → Does t None (u (by_place t.pending t.server.set.pending held addr time x))
       unfolding by_place
-      by_free_lem none (At j) e = takes j e none
-      by_free_lem none Nothing e =
+      by_free_lem none (Some j) e = takes j e none
+      by_free_lem none None e =
           quiet (u t.pending) (same_u t.pending) (settled_u t.pending) (unseen_refl t.server.set.slots t.slots) (unseen_refl t.server.set.pending t.pending) (asks_u t.pending)
 
-      by_same_lem : (x : Found) → find_address t.pending t.server.set.pending addr ≡ x → Does t None (u (by_same t.pending t.server.set.pending held addr time x))
+      by_same_lem : (x : Option ℕ) → find_address t.pending t.server.set.pending addr ≡ x → Does t None (u (by_same t.pending t.server.set.pending held addr time x))
       unfolding by_same
-      by_same_lem (At j) e =
+      by_same_lem (Some j) e =
           let m = t.server.set.pending in
           let h = ((address_found t.pending m pending addr j).0 e).below in
           let b = time_unseen t.pending m j pending h 9 time (omega arith) (omega arith) in
           let c = time_unseen (put_time t.pending _ time) m j (shaped_kept b.long pending) h 11 time (omega arith) (omega arith) in
-          let p = by_same t.pending m held addr time (At j) in
+          let p = by_same t.pending m held addr time (Some j) in
           quiet (u p) (same_u p) (settled_u p) (unseen_refl t.server.set.slots t.slots) (unseen_trans b c) (asks_u p)
-      by_same_lem Nothing e = by_free_lem e (find_free t.pending t.server.set.pending) refl
+      by_same_lem None e = by_free_lem e (find_free t.pending t.server.set.pending) refl
 
   -- ---- a record is on its way to its slot
 
@@ -290,7 +289,7 @@ module _ (t : State) (good : Good t) (slots : Shaped t.slots t.server.set.slots)
       let b = both_false (leb t.server.set.pending j) (leb t.server.set.slots i) k in
       connect_does j i sequence end e (goal_fits (goal.Connecting j i) sequence end e) (leb-false t.server.set.pending j b.0) (leb-false t.server.set.slots i b.1) held
   sealed_does held out sequence end (goal.Sending i) e k = slot_sent_lem i sequence end e (leb-false t.server.set.slots i k)
-  sealed_does held out sequence end (goal.Ending id addr) e k = ends (goal_settled (goal.Ending id addr) sequence end e (λ j. refl)) t.server (answer.ClientDisconnected id addr end 0) refl
+  sealed_does held out sequence end (goal.Ending id addr) e k = ends (goal_settled (goal.Ending id addr) sequence end e (λ j. refl)) t.server (answer.ClientDisconnected id addr end None) refl
 
   unsealed_does : (sequence end : ℕ) (g : Goal) → t.server.ask.stage ≡ stage.Seal g sequence end → goal_misfits g t.server.set.slots t.server.set.pending ≡ false
       → Does t None (leaves t (unsealed t.server g)).state
@@ -302,7 +301,7 @@ module _ (t : State) (good : Good t) (slots : Shaped t.slots t.server.set.slots)
       let b = both_false (leb t.server.set.pending j) (leb t.server.set.slots i) k in
       abandons j i sequence end e (goal_fits (goal.Connecting j i) sequence end e) (leb-false t.server.set.pending j b.0) (leb-false t.server.set.slots i b.1) (answer.Refused 24)
   unsealed_does sequence end (goal.Sending i) e k = ends (goal_settled (goal.Sending i) sequence end e (λ j. refl)) t.server (answer.Refused 24) refl
-  unsealed_does sequence end (goal.Ending id addr) e k = ends (goal_settled (goal.Ending id addr) sequence end e (λ j. refl)) t.server (answer.ClientDisconnected id addr 0 24) refl
+  unsealed_does sequence end (goal.Ending id addr) e k = ends (goal_settled (goal.Ending id addr) sequence end e (λ j. refl)) t.server (answer.ClientDisconnected id addr 0 (Some 24)) refl
 
   stage_does : (granted : Bool) (held : List ℕ) (out : ℕ) (x : Stage) → t.server.ask.stage ≡ x → kind_of x ≡ 3
       → misfits x t.server.set.slots t.server.set.pending t.server.ask.datagram out ≡ false → Does t None (by_stage t granted held out x).state

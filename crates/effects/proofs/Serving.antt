@@ -1,5 +1,6 @@
 -- A call for a client accepts nothing: the slot that its id finds stays as it was, or is empty if it is to end, and the ask that it leaves is for a
 -- packet to go out, which asks nothing of the records.
+use Rattle.std.specs.Prelude.{Option, Some, None}
 use mathlib.Core.Path.{◌≡◌, refl}
 use mathlib.Core.Bool.{Bool, false}
 use Prim.Native.Nat.{ℕ, ◌<◌}
@@ -7,8 +8,6 @@ use native.Mathlib.Omega.{arith}
 use mathlib.Core.List.{List, []}
 use lib.ListN.{length}
 use borrow.Author.Tests.{eqb-true}
-use Rattle.serialize.specs.declared.Found.{Found}
-use Rattle.serialize.specs.declared.Found.TheVariants.{At, Nothing}
 use Rattle.bodies.specs.declared.Packet.{Packet}
 use Rattle.bodies.specs.declared.Packet.TheVariants as packet
 use Rattle.addresses.specs.declared.Address.{Address}
@@ -41,7 +40,7 @@ use Rattle.effects.proofs.Arriving.{stage_settled}
 -- neither 16 nor 23, and the id finds slot i
 pub record Finds (s : NetcodeServer) (slots : List ℕ) (id i : ℕ) : Type 0 where
   pub ready : ready_refusal s (length slots) ≡ 0
-  pub found : find_id slots s.set.slots id ≡ At i
+  pub found : find_id slots s.set.slots id ≡ Some i
 
 -- all as it was; an ask to seal a packet of the slot that the id finds; or that slot empty, without an ask or with one to seal its disconnect
 pub data Leaves (s : NetcodeServer) (slots : List ℕ) (id : ℕ) : NetcodeServer → List ℕ → Type 0 where
@@ -67,24 +66,24 @@ module _ (s : NetcodeServer) (slots : List ℕ) (id : ℕ) where
   ending_way i f addr key sequence out = pick_all Way _ (λ _. ends i f) (λ _. pick_all Way _ (λ _. same) (λ _. ends_asking i f addr sequence _ (length out)))
 
   module _ (ready : ready_refusal s (length slots) ≡ 0) (out : List ℕ) where
-    client_way : (payload : List ℕ) (x : Found) → find_id slots s.set.slots id ≡ x → Says (by_client s slots payload out x)
+    client_way : (payload : List ℕ) (x : Option ℕ) → find_id slots s.set.slots id ≡ x → Says (by_client s slots payload out x)
     unfolding by_client
-    client_way payload (At i) e = sending_way i (record { ready = ready; found = e }) packet.Payload payload _ _ out
-    client_way payload Nothing e = same
+    client_way payload (Some i) e = sending_way i (record { ready = ready; found = e }) packet.Payload payload _ _ out
+    client_way payload None e = same
 
-    updated_way : (x : Found) → find_id slots s.set.slots id ≡ x → Way (updated_at s id slots out x)
+    updated_way : (x : Option ℕ) → find_id slots s.set.slots id ≡ x → Way (updated_at s id slots out x)
     unfolding updated_at slot_updated
-    updated_way (At i) e =
+    updated_way (Some i) e =
         let f : Finds s slots id i = record { ready = ready; found = e } in
         pick_all Way _
         (λ _. ending_way i f _ _ _ out)
         (λ _. pick_all Way _ (λ _. sending_way i f (keep_alive s.max_clients i) [] _ _ out) (λ _. same))
-    updated_way Nothing e = same
+    updated_way None e = same
 
-    ended_way : (x : Found) → find_id slots s.set.slots id ≡ x → Way (ended_at s id slots out x)
+    ended_way : (x : Option ℕ) → find_id slots s.set.slots id ≡ x → Way (ended_at s id slots out x)
     unfolding ended_at
-    ended_way (At i) e = ending_way i (record { ready = ready; found = e }) _ _ _ out
-    ended_way Nothing e = same
+    ended_way (Some i) e = ending_way i (record { ready = ready; found = e }) _ _ _ out
+    ended_way None e = same
 
 -- every way through the three calls
 pub service_leaves : (s : NetcodeServer) (slots : List ℕ) (v : Service) → Leaves s slots (client_of v) (serviced s slots v).turn.server (serviced s slots v).slots

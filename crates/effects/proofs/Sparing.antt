@@ -1,5 +1,6 @@
 -- No datagram alters a slot of another address: every write of a call is at the place that its ask is about, that place has the sender's address
 -- or was free, and the ask stays about it through the exchange. No call for a client alters the slot of another: that place is the one its id finds.
+use Rattle.std.specs.Prelude.{Option, Some, None, Result, Ok, Err}
 use mathlib.Core.Path.{◌≡◌, refl, sym, ap, ◌∙◌}
 use mathlib.Core.Bool.{Bool, true, false}
 use Prim.Native.Nat.{ℕ, ◌+◌, ◌-◌, ◌≤◌, ◌<◌}
@@ -8,8 +9,6 @@ use mathlib.Core.List.{List, [], ◌∷◌}
 use lib.ListN.{length, set}
 use lib.Dec.{eqb, ltb, leb}
 use borrow.Author.Tests.{eqb-true, leb-false}
-use Rattle.serialize.specs.declared.Found.{Found}
-use Rattle.serialize.specs.declared.Found.TheVariants.{At, Nothing}
 use Rattle.serialize.specs.Choice.{pick}
 use Rattle.serialize.specs.Runs.{splice}
 use Rattle.serialize.specs.Le.{words}
@@ -19,8 +18,6 @@ use Rattle.addresses.specs.Addresses.{words_of}
 use Rattle.bodies.specs.declared.PacketType.{PacketType}
 use Rattle.bodies.specs.declared.Packet.{Packet}
 use Rattle.bodies.specs.declared.Packet.TheVariants as packet
-use Rattle.bodies.specs.declared.Body.{Body}
-use Rattle.bodies.specs.declared.Body.TheVariants.{Whole, Short}
 use Rattle.bodies.specs.declared.challenge.ChallengeToken.{ChallengeToken}
 use Rattle.bodies.specs.Tokens.{token_at}
 use Rattle.places.specs.Layout.{Shaped, used_at, body_at}
@@ -33,10 +30,7 @@ use Rattle.places.proofs.Searches.{address_found, free_found, true_false}
 use Rattle.records.specs.Records.{emptied, moved, put_time}
 use Rattle.records.proofs.Kept.{emptied_elsewhere, time_elsewhere}
 use Rattle.records.proofs.ReadBack.{moved_elsewhere}
-use Rattle.decode.specs.declared.Kind.{Kind}
-use Rattle.decode.specs.declared.Kind.TheVariants as kindly
 use Rattle.decode.specs.declared.Start.{Start}
-use Rattle.decode.specs.declared.Start.TheVariants as starting
 use Rattle.decode.specs.Decodes.{type_at, start_at}
 use Rattle.server.specs.declared.NetcodeServer.{NetcodeServer}
 use Rattle.server.specs.declared.Stage.{Stage}
@@ -94,12 +88,12 @@ elsewhere_says s t n i shape h start end (packet.KeepAlive a b) = elsewhere_conf
 elsewhere_says s t n i shape h start end packet.Payload = elsewhere_confirmed t n i shape h
 elsewhere_says s t n i shape h start end packet.Disconnect = emptied_elsewhere t n i shape h
 
-elsewhere_body : (s : NetcodeServer) (t : List ℕ) (n i : ℕ) → Shaped t n → i < n → (start end : ℕ) (b : Body) → Elsewhere n i t (slot_body s t n i start end b).table
+elsewhere_body : (s : NetcodeServer) (t : List ℕ) (n i : ℕ) → Shaped t n → i < n → (start end : ℕ) (b : Result Packet ℕ) → Elsewhere n i t (slot_body s t n i start end b).table
 unfolding slot_body
-elsewhere_body s t n i shape h start end (Whole p) =
+elsewhere_body s t n i shape h start end (Ok p) =
     let e = elsewhere_time t n i shape h 9 (omega arith) s.current_time in
     elsewhere_trans e (elsewhere_says s (touched s t n i) n i (shaped_kept e.long shape) h start end p)
-elsewhere_body s t n i shape h start end Short = elsewhere_refl n i t
+elsewhere_body s t n i shape h start end (Err r) = elsewhere_refl n i t
 
 elsewhere_heard : (s : NetcodeServer) (t : List ℕ) (i : ℕ) → Shaped t s.set.slots → i < s.set.slots → (kind : PacketType) (sequence start : ℕ) (d : List ℕ)
     → Elsewhere s.set.slots i t (slot_heard s t i kind sequence start d).table
@@ -163,11 +157,11 @@ module _ (base : List ℕ) (n k : ℕ) (inside : k < n) (used : used_at base k �
     same_record : Turns t t.server
     same_record = record { set = refl; ask = spared.ask }
 
-    start_spares : (table : List ℕ) (m : ℕ) (connected : Bool) (i : ℕ) (kind : PacketType) → PacketSpares k connected i → (x : Start)
+    start_spares : (table : List ℕ) (m : ℕ) (connected : Bool) (i : ℕ) (kind : PacketType) → PacketSpares k connected i → (x : Result Start ℕ)
         → Turns t (by_start t.server table m connected i kind out d x).server
     unfolding by_start sealed_at open_asked with_ask
-    start_spares table m connected i kind p (starting.Refused number) = same_record
-    start_spares table m connected i kind p (starting.At sequence start) =
+    start_spares table m connected i kind p (Err number) = same_record
+    start_spares table m connected i kind p (Ok from) =
         pick_all (λ (r : Turn). Turns t r.server) _
         (λ _. pick_all (λ (r : Turn). Turns t r.server) _ (λ _. same_record) (λ _. record { set = refl; ask = p }))
         (λ _. same_record)
@@ -195,10 +189,10 @@ module _ (base : List ℕ) (n k : ℕ) (inside : k < n) (used : used_at base k �
     request_spares (Pending j) e = turned t spared (request_read t.server addr out d).server _ read_spares
     request_spares Unknown e = turned t spared (request_read t.server addr out d).server t.pending read_spares
 
-    kind_spares : (x : Kind) → S (by_kind t addr out d x).state
+    kind_spares : (x : Result PacketType ℕ) → S (by_kind t addr out d x).state
     unfolding by_kind kind_arrives
-    kind_spares (kindly.Refused number) = spared
-    kind_spares (kindly.Of kind) =
+    kind_spares (Err number) = spared
+    kind_spares (Ok kind) =
         pick_all (λ (o : Outcome). S o.state) _
         (λ _. pick_all (λ (o : Outcome). S o.state) _ (λ _. spared) (λ _. request_spares (sender_in t addr) refl))
         (λ _. turned t spared (sealed_from t out kind d (sender_in t addr)).server t.pending (sealed_spares kind (sender_in t addr) refl))
@@ -241,10 +235,10 @@ module _ (base : List ℕ) (n k : ℕ) (inside : k < n) (used : used_at base k �
     says_over u m i start end packet.Payload = record { set = refl; ask = omega arith }
     says_over u m i start end packet.Disconnect = record { set = refl; ask = omega arith }
 
-    body_over : (u : List ℕ) (m i start end : ℕ) (b : Body) → Turns t (slot_body t.server u m i start end b).turn.server
+    body_over : (u : List ℕ) (m i start end : ℕ) (b : Result Packet ℕ) → Turns t (slot_body t.server u m i start end b).turn.server
     unfolding slot_body with_ask
-    body_over u m i start end (Whole p) = says_over _ m i start end p
-    body_over u m i start end Short = record { set = refl; ask = omega arith }
+    body_over u m i start end (Ok p) = says_over _ m i start end p
+    body_over u m i start end (Err r) = record { set = refl; ask = omega arith }
 
     pending_over : (j start datagram out : ℕ) (p : Packet) → Turns t (pending_says t.server j start datagram out p).server
     unfolding pending_says challenge_asked with_ask
@@ -256,10 +250,10 @@ module _ (base : List ℕ) (n k : ℕ) (inside : k < n) (used : used_at base k �
     pending_over j start datagram out packet.Payload = record { set = refl; ask = omega arith }
     pending_over j start datagram out packet.Disconnect = record { set = refl; ask = omega arith }
 
-    pending_body_over : (u : List ℕ) (m j start datagram out : ℕ) (b : Body) → Turns t (pending_body t.server u m j start datagram out b).turn.server
+    pending_body_over : (u : List ℕ) (m j start datagram out : ℕ) (b : Result Packet ℕ) → Turns t (pending_body t.server u m j start datagram out b).turn.server
     unfolding pending_body with_ask
-    pending_body_over u m j start datagram out (Whole p) = pending_over j start datagram out p
-    pending_body_over u m j start datagram out Short = record { set = refl; ask = omega arith }
+    pending_body_over u m j start datagram out (Ok p) = pending_over j start datagram out p
+    pending_body_over u m j start datagram out (Err r) = record { set = refl; ask = omega arith }
 
     packet_spares : (connected : Bool) (place : ℕ) (kind : PacketType) (sequence start : ℕ) (out d : List ℕ) → PacketSpares k connected place
         → misplaced place (room_of connected t.server.set.slots t.server.set.pending) (length d) start 16 ≡ false
@@ -276,7 +270,7 @@ module _ (base : List ℕ) (n k : ℕ) (inside : k < n) (used : used_at base k �
     denied_spares datagram out key a =
         pick_all (λ (x : Spoken). Turns t x.turn.server) _ (λ _. record { set = refl; ask = omega arith }) (λ _. record { set = refl; ask = omega arith })
 
-    free_other : (i : ℕ) → find_free t.slots t.server.set.slots ≡ At i → i ≡ k → ⊥
+    free_other : (i : ℕ) → find_free t.slots t.server.set.slots ≡ Some i → i ≡ k → ⊥
     free_other i e x =
         let f = (free_found t.slots t.server.set.slots i).0 e in
         true_false (ap (used_at t.slots) x ∙ still_used t.slots spared.kept) (empty_unused t.slots i f.here)
@@ -287,16 +281,16 @@ module _ (base : List ℕ) (n k : ℕ) (inside : k < n) (used : used_at base k �
     connecting_spares datagram held out j i away key sequence token =
         pick_all (λ (x : Prepared). Turns t x.turn.server) _ (λ _. record { set = refl; ask = omega arith }) (λ _. record { set = refl; ask = away })
 
-    free_spares : (datagram : ℕ) (p held out : List ℕ) (j : ℕ) (token : ChallengeToken) (x : Found) → find_free t.slots t.server.set.slots ≡ x
+    free_spares : (datagram : ℕ) (p held out : List ℕ) (j : ℕ) (token : ChallengeToken) (x : Option ℕ) → find_free t.slots t.server.set.slots ≡ x
         → Turns t (by_free t.server datagram p held out j token x).turn.server
     unfolding by_free
-    free_spares datagram p held out j token (At i) e = connecting_spares datagram held out j i (free_other i e) _ _ token
-    free_spares datagram p held out j token Nothing e = denied_spares datagram out _ _
+    free_spares datagram p held out j token (Some i) e = connecting_spares datagram held out j i (free_other i e) _ _ token
+    free_spares datagram p held out j token None e = denied_spares datagram out _ _
 
-    id_spares : (datagram : ℕ) (p held out : List ℕ) (j : ℕ) (token : ChallengeToken) (x : Found) → Turns t (by_id t.server datagram t.slots p held out j token x).turn.server
+    id_spares : (datagram : ℕ) (p held out : List ℕ) (j : ℕ) (token : ChallengeToken) (x : Option ℕ) → Turns t (by_id t.server datagram t.slots p held out j token x).turn.server
     unfolding by_id with_ask
-    id_spares datagram p held out j token (At q) = record { set = refl; ask = omega arith }
-    id_spares datagram p held out j token Nothing = free_spares datagram p held out j token (find_free t.slots t.server.set.slots) refl
+    id_spares datagram p held out j token (Some q) = record { set = refl; ask = omega arith }
+    id_spares datagram p held out j token None = free_spares datagram p held out j token (find_free t.slots t.server.set.slots) refl
 
     opened_spares : (held out d : List ℕ) (x : Stage) → AskSpares k x → misfits x t.server.set.slots t.server.set.pending (length d) (length out) ≡ false
         → S (opened t held out d x).outcome.state
@@ -421,11 +415,11 @@ module _ (base : List ℕ) (n k : ℕ) (inside : k < n) (used : used_at base k �
 
   -- ---- a call for another client
 
-  module _ (t : State) (spared : S t) (id : ℕ) (other : find_id t.slots t.server.set.slots id ≡ At k → ⊥) where
+  module _ (t : State) (spared : S t) (id : ℕ) (other : find_id t.slots t.server.set.slots id ≡ Some k → ⊥) where
     module _ (i : ℕ) (f : Finds t.server t.slots id i) where
       -- the slot that the id finds is another
       other_found : i ≡ k → ⊥
-      other_found x = other (f.found ∙ ap At x)
+      other_found x = other (f.found ∙ ap Some x)
 
       ended_spares : (s : NetcodeServer) → Turns t s → S (state s (emptied t.slots i) t.pending)
       ended_spares s r =
@@ -469,7 +463,7 @@ other_address_kept t idle addr out d rs k inside used far =
 -- NO CALL FOR A CLIENT ALTERS A SLOT OF ANOTHER: any tables, any call for a client, any list of answers, any buffers. Slot k is used and is not the
 -- one that the client's id finds; no ask is open. Then every word of the slot is as it was.
 pub other_client_kept : (t : State) → t.server.ask.stage ≡ stage.Idle → (v : Service) (rs : List Reply)
-    → (k : ℕ) → k < t.server.set.slots → used_at t.slots k ≡ true → (find_id t.slots t.server.set.slots (client_of v) ≡ At k → ⊥)
+    → (k : ℕ) → k < t.server.set.slots → used_at t.slots k ≡ true → (find_id t.slots t.server.set.slots (client_of v) ≡ Some k → ⊥)
     → Kept t.slots (answered (served t v) rs).slots t.server.set.slots k
 other_client_kept t idle v rs k inside used other =
     let n = t.server.set.slots in

@@ -5,6 +5,7 @@ use Rattle.serialize.proofs.Determined.{coincide}
 use Rattle.encode.specs.Encodes.{done}
 use Rattle.encode.proofs.writing.answer_seal.Reads as answer-seal
 use Rattle.encode.proofs.writing.answered.Reads as answered
+use Rattle.encode.proofs.writing.refused.Reads as refused
 use Rattle.encode.proofs.writing.encode.Reads as encode
 use Rattle.encode.proofs.token.generate_challenge.Reads as generate-challenge
 
@@ -15,6 +16,9 @@ answer_seal_determined κs a x y e f p q = coincide p q
 
 pub answered_determined : (κs : _) (a : _) (x y : _) (e f : _) → answered.Post κs a x e → answered.Post κs a y f → x ≡ y
 answered_determined κs a x y e f p q = coincide p q
+
+pub refused_determined : (κs : _) (a : _) (x y : _) (e f : _) → refused.Post κs a x e → refused.Post κs a y f → x ≡ y
+refused_determined κs a x y e f p q = coincide p q
 
 -- ---- functions that write a buffer: answer, ask, what is kept open, and the buffer
 

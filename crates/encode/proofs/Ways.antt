@@ -1,4 +1,5 @@
 -- The ways out of the code: each test that the code makes is one of the definition's, so a way out is the definition's case.
+use Rattle.std.specs.Prelude.{Option, None, is_some, Result}
 use mathlib.Core.Path.{◌≡◌, sym, ap, ap₂, ◌∙◌}
 use mathlib.Core.Logic.{◌≢◌}
 use mathlib.Core.Bool.{Bool, true, false, not, ◌&&◌}
@@ -20,14 +21,13 @@ use Rattle.bodies.specs.declared.Packet.{Packet}
 use Rattle.bodies.specs.Kinds.{number_of, is_request}
 use Rattle.bodies.specs.Bodies.{kind_of, wants, body_length, body}
 use Rattle.bodies.proofs.Back.{length_body}
+use Rattle.refusal.specs.Verdicts.{verdict}
 use Rattle.asks.specs.declared.Ask.{Ask}
-use Rattle.asks.specs.declared.PrivateKey.{PrivateKey}
 use Rattle.asks.specs.declared.Work.TheVariants.{Seal}
 use Rattle.encode.specs.declared.Encoding.TheVariants.{Asked, Length}
-use Rattle.encode.specs.declared.Sealing.TheVariants.{Closed, Open}
 use Rattle.encode.specs.declared.Encoded.{Encoded}
-use Rattle.asks.specs.Asks.{no_ask, packet_ask}
-use Rattle.encode.specs.Encodes.{done, encoded_as, refused_by, shown, body_at, need, unencodable, written_as, encode}
+use Rattle.asks.specs.Asks.{no_ask, packet_ask, key_bytes}
+use Rattle.encode.specs.Encodes.{done, encoded_as, open_at, refused_by, shown, body_at, need, unencodable, written_as, encode}
 
 module _ (room : ℕ) (kind : PacketType) (given : ℕ) (keyed : Bool) (sequence : ℕ) where
   pub lacks_key : not keyed && not (is_request kind) ≡ true → 3 ≡ unencodable room kind given keyed sequence
@@ -69,22 +69,27 @@ head_written out t kind sequence h e f g i =
     ∙ splice_cons out 0 (prefix_byte (number_of kind) (fewest v)) (to_le (fewest v) v) (omega (arith, length_to_le (fewest v) v))
 
 -- what follows from what was written
-module _ (room : ℕ) (kind : PacketType) (given protocol : ℕ) (key : PrivateKey) (sequence : ℕ) {end : ℕ} (ends : end ≡ need kind given sequence) where
-  pub written_whole : {r : Encoded} → is_request kind ≡ true → r ≡ encoded_as (Length end) no_ask Closed → r ≡ written_as room kind given protocol key sequence
+module _ (room : ℕ) (kind : PacketType) (given protocol : ℕ) (key : Option (List ℕ)) (sequence : ℕ) {end : ℕ} (ends : end ≡ need kind given sequence) where
+  pub written_whole : {r : Encoded} → is_request kind ≡ true → r ≡ encoded_as (Length end) no_ask None → r ≡ written_as room kind given protocol key sequence
   unfolding written_as pick
   written_whole e f = f ∙ simp (e, ends)
 
   pub written_asked : {start n p : ℕ} {a : Ask} → is_request kind ≡ false → start ≡ body_at kind sequence → n ≡ number_of kind → p ≡ prefix_byte n (fewest sequence)
-      → a ≡ packet_ask Seal key.bytes sequence p protocol start end
-      → encoded_as Asked a (Open end room) ≡ written_as room kind given protocol key sequence
+      → a ≡ packet_ask Seal (key_bytes key) sequence p protocol start end
+      → encoded_as Asked a (open_at end room) ≡ written_as room kind given protocol key sequence
   unfolding written_as pick
   written_asked e f g h i = simp (e, i, f, ends, h ∙ ap (λ (x : ℕ). prefix_byte x (fewest sequence)) g)
 
+-- what the test of the code comes to, which asks whether there is a key
+pub tested_keyed : (room : ℕ) (kind : PacketType) (given : ℕ) (key : Option (List ℕ)) (sequence : ℕ) {keyed : Bool} {x : Result (Unit {0}) ℕ}
+    → x ≡ verdict (unencodable room kind given keyed sequence) → keyed ≡ is_some key → x ≡ verdict (unencodable room kind given (is_some key) sequence)
+tested_keyed room kind given key sequence e f = e ∙ ap (λ (b : Bool). verdict (unencodable room kind given b sequence)) f
+
 -- the whole: k is the packet's type and u the number that refuses
-module _ (out : List ℕ) (packet : Packet) (bytes : List ℕ) (protocol : ℕ) (key : PrivateKey) (sequence : ℕ) {k : PacketType} {u : ℕ}
-    (same : k ≡ kind_of packet) (number : u ≡ unencodable (length out) k (length bytes) key.given sequence) where
-  refuses : u ≡ unencodable (length out) (kind_of packet) (length bytes) key.given sequence
-  refuses = number ∙ ap (λ (x : PacketType). unencodable (length out) x (length bytes) key.given sequence) same
+module _ (out : List ℕ) (packet : Packet) (bytes : List ℕ) (protocol : ℕ) (key : Option (List ℕ)) (sequence : ℕ) {k : PacketType} {u : ℕ}
+    (same : k ≡ kind_of packet) (number : u ≡ unencodable (length out) k (length bytes) (is_some key) sequence) where
+  refuses : u ≡ unencodable (length out) (kind_of packet) (length bytes) (is_some key) sequence
+  refuses = number ∙ ap (λ (x : PacketType). unencodable (length out) x (length bytes) (is_some key) sequence) same
 
   pub encode_refused : {r : Encoded} → r ≡ refused_by u → u ≢ 0 → done r out ≡ encode out packet bytes protocol key sequence
   unfolding encode pick
@@ -95,7 +100,7 @@ module _ (out : List ℕ) (packet : Packet) (bytes : List ℕ) (protocol : ℕ) 
       → (wants (kind_of packet) ≤ length bytes) × (start + body_length (kind_of packet) (length bytes) ≤ length t)
   room_for_body {start} t z s e =
       let kind : PacketType = kind_of packet in
-      let (keyed, room) = encodable (length out) kind (length bytes) key.given sequence (sym refuses ∙ z) in
+      let (keyed, room) = encodable (length out) kind (length bytes) (is_some key) sequence (sym refuses ∙ z) in
       let c : start ≡ body_at kind sequence = s ∙ ap (λ (x : PacketType). body_at x sequence) same in
       (room.1, omega arith)
 
@@ -106,7 +111,7 @@ module _ (out : List ℕ) (packet : Packet) (bytes : List ℕ) (protocol : ℕ) 
   unfolding encode pick
   encode_written {r} {start} {t} {v} z s e f g =
       let kind : PacketType = kind_of packet in
-      let (keyed, room) = encodable (length out) kind (length bytes) key.given sequence (sym refuses ∙ z) in
+      let (keyed, room) = encodable (length out) kind (length bytes) (is_some key) sequence (sym refuses ∙ z) in
       let a : length (head_bytes (number_of kind) (shown kind sequence)) ≡ body_at kind sequence = length_head kind sequence in
       let b : length (body packet bytes) ≡ body_length kind (length bytes) = length_body packet bytes room.1 in
       let c : start ≡ body_at kind sequence = s ∙ ap (λ (x : PacketType). body_at x sequence) same in

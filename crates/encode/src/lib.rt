@@ -6,27 +6,28 @@ mod token;
 mod writing;
 
 use asks::Ask;
+use refusal::Refusal;
 pub use token::generate_challenge;
 pub use writing::{answer_seal, encode};
 
-// What encoding comes to: refused by a number, an ask to seal, or a packet of so many bytes.
+// What encoding comes to, an enum of its own, as document 01 wants an answer: refused, an ask to seal, or a packet of so many bytes.
 #[derive(Clone, Copy)]
 pub enum Encoding {
-    Refused(u8),
+    Refused(Refusal),
     Asked,
     Length(usize),
 }
 
 // An ask to seal that is open: where its part ends, and the length of the buffer that was lent.
 #[derive(Clone, Copy)]
-pub enum Sealing {
-    Closed,
-    Open { end: usize, len: usize },
+pub struct Sealing {
+    pub end: usize,
+    pub len: usize,
 }
 
 #[derive(Clone, Copy)]
 pub struct Encoded {
     pub answer: Encoding,
     pub ask: Ask,
-    pub sealing: Sealing,
+    pub sealing: Option<Sealing>,
 }

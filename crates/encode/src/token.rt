@@ -7,8 +7,10 @@ ghost use Rattle.encode.specs.Generates.{generate_challenge};
 use crate::{Encoded, Encoding, Sealing, writing};
 use asks::{NETCODE_KEY_BYTES, Work};
 use bodies::{ChallengeToken, NETCODE_CHALLENGE_TOKEN_BYTES, NETCODE_USER_DATA_BYTES};
+use refusal::{Refusal, Why};
 
-// A challenge token into out from index at, and the ask to seal it there with its tag: 14 where it does not fit.
+// A challenge token into out from index at, and the ask to seal it there with its tag; refused where it does not fit.
+#[tactic(auto, unfolding(crate::specs::Generates::generate_challenge, serialize::specs::Choice::pick))]
 pub fn generate_challenge(
     out: &mut [u8],
     at: usize,
@@ -21,13 +23,13 @@ pub fn generate_challenge(
 {
     let room = out.len();
     if asks::past(room, at, NETCODE_CHALLENGE_TOKEN_BYTES) {
-        return writing::answered(Encoding::Refused(14), Sealing::Closed);
+        return writing::refused(Refusal(Why::OutputShort));
     }
     let end = at + NETCODE_CHALLENGE_TOKEN_BYTES;
     ChallengeToken::new(client_id, user_data).write(out, at);
     Encoded {
         answer: Encoding::Asked,
         ask: asks::token_ask(Work::Seal, challenge_key, challenge_sequence, at, end),
-        sealing: Sealing::Open { end, len: room },
+        sealing: Some(Sealing { end, len: room }),
     }
 }

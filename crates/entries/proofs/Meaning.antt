@@ -1,5 +1,6 @@
 -- What a call answers and writes, from the definitions alone: each search finds the one place that its law describes, and an entry
 -- that was written is the only match for its own token.
+use Rattle.std.specs.Prelude.{Option, Some, None}
 use mathlib.Core.Path.{◌≡◌, refl, sym, ap, subst, ◌∙◌}
 use mathlib.Core.Bool.{Bool, true, false, not}
 use mathlib.Core.List.{List}
@@ -9,8 +10,6 @@ use native.Mathlib.Omega.{arith}
 use lib.ListN.{length, get_or, length-replicate, get_or-replicate}
 use lib.Dec.{eqb, ltb}
 use borrow.Author.Tests.{eq-eqb, ne_eqb, le-ltb, eqb-true, eqb-false, ltb-false}
-use Rattle.serialize.specs.declared.Found.{Found}
-use Rattle.serialize.specs.declared.Found.TheVariants.{At, Nothing}
 use Rattle.serialize.specs.Choice.{pick}
 use Rattle.serialize.specs.Runs.{splice, zeros}
 use Rattle.serialize.proofs.Lists.{length_splice, get_or_splice_in}
@@ -34,9 +33,9 @@ NoMatch t k e = (m : ℕ) → m < k → match_at t k e.mac m ≡ false
 abbrev pub Full : List ℕ → ℕ → Type 0
 Full t k = (m : ℕ) → m < k → used_at t m ≡ true
 
-by_search : {A : Type 0} (f : Found) → ((i : ℕ) → f ≡ At i → A) → (f ≡ Nothing → A) → A
-by_search (At i) g a = g i refl
-by_search Nothing g a = a refl
+by_search : {A : Type 0} (f : Option ℕ) → ((i : ℕ) → f ≡ Some i → A) → (f ≡ None → A) → A
+by_search (Some i) g a = g i refl
+by_search None g a = a refl
 
 -- ---- a match
 
@@ -57,11 +56,11 @@ module _ (t : List ℕ) (k : ℕ) (e : ConnectTokenEntry) where
 module _ (t : List ℕ) (k : ℕ) where
   first_empty : (i : ℕ) → i < k → used_at t i ≡ false → ((m : ℕ) → m < i → used_at t m ≡ true) → i ≡ place_for t k
   first_empty i h p q =
-      let found : find_empty t k ≡ At i =
+      let found : find_empty t k ≡ Some i =
       lowest_found (empty_at t) 0 k i (record { from = omega arith; below = omega arith; holds = ap not p; none = λ m a b. ap not (q m b) }) in
       (place_empty t k found).0
 
-  none_empty : Full t k → find_empty t k ≡ Nothing
+  none_empty : Full t k → find_empty t k ≡ None
   none_empty full = none_found (empty_at t) 0 k (λ m a b. ap not (full m (omega arith)))
 
   first_lowest : Full t k → (j : ℕ) → j < k → ((m : ℕ) → m < k → nanos_at t k j ≤ nanos_at t k m) → ((m : ℕ) → m < j → nanos_at t k j < nanos_at t k m)

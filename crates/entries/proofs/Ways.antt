@@ -1,13 +1,12 @@
 -- What a call's tests and its callees' answers come to, as its promise says it: by cases of the definition, and by runs that lie
 -- right after each other.
+use Rattle.std.specs.Prelude.{Option, Some, None}
 use mathlib.Core.Path.{◌≡◌, sym, ap, ◌∙◌}
 use mathlib.Core.Bool.{Bool, true}
 use mathlib.Core.List.{List, [], ◌∷◌, ◌++◌}
 use Prim.Native.Nat.{ℕ, ◌+◌, ◌%◌, ◌<◌, ◌≤◌}
 use native.Mathlib.Omega.{arith}
 use lib.ListN.{length, set, length-append}
-use Rattle.serialize.specs.declared.Found.{Found}
-use Rattle.serialize.specs.declared.Found.TheVariants.{At, Nothing}
 use Rattle.serialize.specs.Runs.{part, splice}
 use Rattle.serialize.specs.Le.{to_le}
 use Rattle.serialize.proofs.Lists.{length_part, set_splice, splice_then}
@@ -87,24 +86,24 @@ body_written l t u v w at e h k p q r s =
 -- ---- what a search found decides
 
 module _ (t : List ℕ) (k : ℕ) where
-  pub place_empty : {i : ℕ} → find_empty t k ≡ At i → (i ≡ place_for t k) × (i < k)
+  pub place_empty : {i : ℕ} → find_empty t k ≡ Some i → (i ≡ place_for t k) × (i < k)
   unfolding place_for by_found
   place_empty {i} e =
-      (ap (λ (f : Found). by_found f (λ (j : ℕ). j) (oldest t k)) (sym e), omega (arith, (found_lowest (empty_at t) 0 k i e).below))
+      (ap (λ (f : Option ℕ). by_found f (λ (j : ℕ). j) (oldest t k)) (sym e), omega (arith, (found_lowest (empty_at t) 0 k i e).below))
 
-  pub place_oldest : {r : ℕ} → find_empty t k ≡ Nothing → r ≡ oldest t k → r ≡ place_for t k
+  pub place_oldest : {r : ℕ} → find_empty t k ≡ None → r ≡ oldest t k → r ≡ place_for t k
   unfolding place_for by_found
-  place_oldest e f = f ∙ ap (λ (g : Found). by_found g (λ (j : ℕ). j) (oldest t k)) (sym e)
+  place_oldest e f = f ∙ ap (λ (g : Option ℕ). by_found g (λ (j : ℕ). j) (oldest t k)) (sym e)
 
 module _ (t : List ℕ) (k : ℕ) (e : ConnectTokenEntry) where
   -- the answer, and the entries left, as the search for a match answers
-  by_match : Found → Outcome
+  by_match : Option ℕ → Outcome
   by_match f = by_found f (λ (i : ℕ). done (same (address_at t k i) e.address) t) (done true (written t k (place_for t k) e))
 
-  pub entry_matched : {i : ℕ} {r : Bool} → find_match t k e.mac ≡ At i → r ≡ same (address_at t k i) e.address → done r t ≡ add_entry t k e
+  pub entry_matched : {i : ℕ} {r : Bool} → find_match t k e.mac ≡ Some i → r ≡ same (address_at t k i) e.address → done r t ≡ add_entry t k e
   unfolding add_entry by_found by_match
   entry_matched p q = ap (λ (b : Bool). done b t) q ∙ ap by_match (sym p)
 
-  pub entry_added : {i : ℕ} {u : List ℕ} → find_match t k e.mac ≡ Nothing → i ≡ place_for t k → u ≡ written t k i e → done true u ≡ add_entry t k e
+  pub entry_added : {i : ℕ} {u : List ℕ} → find_match t k e.mac ≡ None → i ≡ place_for t k → u ≡ written t k i e → done true u ≡ add_entry t k e
   unfolding add_entry by_found by_match
   entry_added p q r = ap (done true) (r ∙ ap (λ (j : ℕ). written t k j e) q) ∙ ap by_match (sym p)

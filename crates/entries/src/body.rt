@@ -59,11 +59,8 @@ pub fn is_match(entries: &[u8], k: usize, i: usize, mac: &[u8; NETCODE_MAC_BYTES
     requires { Shaped entries.now k × (i < k) }
     ensures { result ≡ match_at entries.now k mac.now i }
 {
-    if serialize::same_bytes(entries, k + BODY_BYTES * i + MAC, mac, 0, NETCODE_MAC_BYTES) {
-        is_used(entries, i)
-    } else {
-        false
-    }
+    serialize::same_bytes(entries, k + BODY_BYTES * i + MAC, mac, 0, NETCODE_MAC_BYTES)
+        && is_used(entries, i)
 }
 
 fn write_address(entries: &mut [u8], at: usize, address: Address)
@@ -83,7 +80,7 @@ fn write_body(entries: &mut [u8], at: usize, entry: ConnectTokenEntry)
     serialize::write_u64(entries, at, entry.time.secs);
     serialize::write_u32(entries, at + NANOS, (entry.time.nanos % 4294967296) as u32);
     write_address(entries, at + KIND, entry.address);
-    serialize::copy_bytes(entries, at + MAC, &entry.mac, 0, NETCODE_MAC_BYTES);
+    serialize::copy(entries, at + MAC, &entry.mac, 0, NETCODE_MAC_BYTES);
 }
 
 // Mark empty, body, mark used: a place whose body is half written is never a used one.

@@ -2,12 +2,13 @@
 #![tactic(auto)]
 
 ghost use Rattle.std.specs.Prelude.{◌≡◌, ◌<◌};
+ghost use Rattle.refusal.specs.Verdicts.{verdict};
 ghost use Rattle.serialize.specs.Runs.{splice, zeros};
 ghost use Rattle.entries.specs.Layout.{Shaped, entries_refusal, count};
 ghost use Rattle.entries.specs.Finds.{add_entry, done, place_for};
 
 use addresses::Address;
-use serialize::Found;
+use refusal::{Refusal, Why};
 use times::Time;
 
 mod body;
@@ -32,21 +33,21 @@ pub struct ConnectTokenEntry {
     pub mac: [u8; NETCODE_MAC_BYTES],
 }
 
-// 23 for a length that is no whole number of places, for none of them, and for too many.
-pub fn entries_refusal(entries: &[u8]) -> u8
-    ensures { result ≡ entries_refusal entries.now }
+// A length is refused that is no whole number of places, none of them, or too many.
+pub fn entries_refusal(entries: &[u8]) -> Result<(), Refusal>
+    ensures { result ≡ verdict (entries_refusal entries.now) }
 {
     let k = entries.len() / ENTRY_BYTES;
     if entries.len() % ENTRY_BYTES != 0 {
-        return 23;
+        return Err(Refusal(Why::TableUnfit));
     }
     if k == 0 {
-        return 23;
+        return Err(Refusal(Why::TableUnfit));
     }
     if k > MAX_ENTRIES {
-        return 23;
+        return Err(Refusal(Why::TableUnfit));
     }
-    0
+    Ok(())
 }
 
 pub fn count_entries(entries: &[u8]) -> usize
@@ -60,7 +61,7 @@ pub fn empty_entries(entries: &mut [u8], k: usize)
     requires { Shaped entries.old k }
     ensures { entries.new ≡ splice entries.old 0 (zeros k) }
 {
-    serialize::zero_bytes(entries, 0, k);
+    serialize::fill(entries, 0, k, 0);
 }
 
 // Where an entry that matches none is written: the first empty place, else the first with the lowest time.
@@ -69,8 +70,8 @@ fn place_for(entries: &[u8], k: usize) -> usize
     ensures { (result ≡ place_for entries.now k) × (result < k) }
 {
     match find::find_empty(entries, k) {
-        Found::At(i) => i,
-        Found::Nothing => find::find_oldest(entries, k),
+        Some(i) => i,
+        None => find::find_oldest(entries, k),
     }
 }
 
@@ -86,8 +87,8 @@ pub fn find_or_add_connect_token_entry(
 {
     let mac = new_entry.mac;
     match find::find_match(entries, k, &mac) {
-        Found::At(i) => body::address_at(entries, k, i).same(new_entry.address),
-        Found::Nothing => {
+        Some(i) => body::address_at(entries, k, i) == new_entry.address,
+        None => {
             let place = place_for(entries, k);
             body::write_entry(entries, k, place, new_entry);
             true

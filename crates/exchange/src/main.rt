@@ -3,9 +3,11 @@
 // out of our functions, and whether it is what it should be.
 #![tactic(auto)]
 
-use asks::{Ask, PrivateKey};
-use bodies::Packet;
-use decode::{Decoded, Decoding, Guard};
+ghost use Rattle.std.specs.Prelude.{◌≤◌, IfOk};
+
+use asks::Ask;
+use bodies::{Packet, PacketType};
+use decode::{Decoded, Decoding};
 use encode::Encoding;
 use replay_protection::ReplayProtection;
 use std::io;
@@ -23,87 +25,28 @@ const SEALED: [u8; 24] =
 // The keep-alive's body: index 3, maximum 8.
 const TEXT: [u8; 8] = *b"\x03\x00\x00\x00\x08\x00\x00\x00";
 
-fn say(to: Stdout, text: &[u8]) -> io::Result<()> {
-    to.write_all(text)
+// The key that both ends hold.
+fn with_key() -> Option<[u8; 32]> {
+    Some(KEY)
 }
 
-// The text between the lines, each in a function of its own.
-fn first_step(to: Stdout) -> io::Result<()> {
-    say(
-        to,
-        b"1. A keep-alive, slot 3 of 8, is encoded for protocol 7 under sequence 0, into 26 bytes AA.\n",
-    )
-}
-
-fn seal_asked(to: Stdout) -> io::Result<()> {
-    say(to, b"   The library asks the host to seal:\n")
-}
-
-fn second_step(to: Stdout) -> io::Result<()> {
-    say(to, b"2. The host seals in place and says yes.\n")
-}
-
-fn third_step(to: Stdout) -> io::Result<()> {
-    say(
-        to,
-        b"3. The 25 bytes arrive where the window is fresh, and are decoded.\n",
-    )
-}
-
-fn open_asked(to: Stdout) -> io::Result<()> {
-    say(to, b"   The library asks the host to open:\n")
-}
-
-fn fourth_step(to: Stdout) -> io::Result<()> {
-    say(to, b"4. Had the host said no, or lent other bytes:\n")
-}
-
-fn fifth_step(to: Stdout) -> io::Result<()> {
-    say(to, b"5. The host opens in place and says yes.\n")
-}
-
-fn sixth_step(to: Stdout) -> io::Result<()> {
-    say(to, b"6. A disconnect has no body.\n")
-}
-
-fn seventh_step(to: Stdout) -> io::Result<()> {
-    say(to, b"7. A request needs no key, and 1,078 bytes.\n")
-}
-
-// The lines that hold so far; no count here is near the end of its range.
-fn plus(a: u32, b: u32) -> u32 {
-    a.wrapping_add(b)
-}
-
-fn with_key() -> PrivateKey {
-    PrivateKey {
-        given: true,
-        bytes: KEY,
-    }
-}
-
-fn fresh() -> Guard {
-    Guard {
-        given: true,
-        window: ReplayProtection::new(),
-    }
+fn fresh() -> Option<ReplayProtection> {
+    Some(ReplayProtection::new())
 }
 
 // The number that refused, 0 for none.
 fn refused(answer: Decoding) -> u64 {
     match answer {
-        Decoding::Refused(n) => n as u64,
-        Decoding::Asked => 0,
-        Decoding::Read(_) => 0,
+        Decoding::Refused(refusal) => u64::from(refusal.number()),
+        Decoding::Asked | Decoding::Read(_) => 0,
     }
 }
 
 // The length of an encoded packet, 0 where there is none.
 fn length(answer: Encoding) -> u64 {
     match answer {
-        Encoding::Refused(_) => 0,
-        Encoding::Asked => 0,
         Encoding::Length(n) => n as u64,
+        Encoding::Refused(_) | Encoding::Asked => 0,
     }
 }
 
@@ -112,38 +55,36 @@ fn index(answer: Decoding) -> u64 {
     let Decoding::Read(opened) = answer else {
         return 0;
     };
-    let packet = opened.packet;
-    let Packet::KeepAlive {
-        client_index,
-        max_clients: _,
-    } = packet
-    else {
-        return 0;
-    };
-    client_index as u64
+    match opened.packet {
+        Packet::KeepAlive { client_index, .. } => u64::from(client_index),
+        _ => 0,
+    }
 }
 
 // A line for each part of an ask.
-fn asked(to: Stdout, ask: Ask) -> io::Result<u32> {
-    let key = ask.key;
-    let a = print::bytes(to, b"   key:", &key, &KEY)?;
-    let nonce = ask.nonce;
-    let b = print::bytes(to, b"   nonce:", &nonce, &[0u8; 12])?;
-    let additional = ask.additional;
+fn asked(to: Stdout, ask: Ask) -> io::Result<u32>
+    ensures { IfOk result (λ r. r ≤ 5) }
+{
+    let a = print::bytes(to, b"   key:", &ask.key, &KEY)?;
+    let b = print::bytes(to, b"   nonce:", &ask.nonce, &[0u8; 12])?;
     let c = print::bytes(
         to,
         b"   additional data:",
-        &additional,
+        &ask.additional,
         b"NETCODE 1.02\x00\x07\x00\x00\x00\x00\x00\x00\x00\x04",
     )?;
     let d = print::number(to, b"   from byte:", ask.start as u64, 1)?;
     let e = print::number(to, b"   to byte:", ask.end as u64, 25)?;
-    Ok(plus(plus(plus(plus(a, b), c), d), e))
+    Ok(a + b + c + d + e)
 }
 
 // A keep-alive, encoded into a buffer of 26 bytes AA and sealed.
-fn encodes(to: Stdout) -> io::Result<u32> {
-    first_step(to)?;
+fn encodes(to: Stdout) -> io::Result<u32>
+    ensures { IfOk result (λ r. r ≤ 8) }
+{
+    to.write_all(
+        b"1. A keep-alive, slot 3 of 8, is encoded for protocol 7 under sequence 0, into 26 bytes AA.\n",
+    )?;
     let mut out = [0xaau8; 26];
     let packet = Packet::KeepAlive {
         client_index: 3,
@@ -156,101 +97,97 @@ fn encodes(to: Stdout) -> io::Result<u32> {
         &out,
         b"\x04\x03\x00\x00\x00\x08\x00\x00\x00\xaa\xaa\xaa\xaa\xaa\xaa\xaa\xaa\xaa\xaa\xaa\xaa\xaa\xaa\xaa\xaa\xaa",
     )?;
-    seal_asked(to)?;
-    let ask = first.ask;
-    let b = asked(to, ask)?;
-    second_step(to)?;
-    serialize::copy_bytes(&mut out, 1, &SEALED, 0, 24);
-    let sealing = first.sealing;
-    let last = encode::answer_seal(sealing, &out, true);
-    let answer = last.answer;
-    let c = print::number(to, b"   the packet's length:", length(answer), 25)?;
+    to.write_all(b"   The library asks the host to seal:\n")?;
+    let b = asked(to, first.ask)?;
+    to.write_all(b"2. The host seals in place and says yes.\n")?;
+    serialize::copy(&mut out, 1, &SEALED, 0, 24);
+    let last = encode::answer_seal(first.sealing, &out, true);
+    let c = print::number(to, b"   the packet's length:", length(last.answer), 25)?;
     let d = print::bytes(
         to,
         b"   the buffer:",
         &out,
         b"\x04\x1b\xb8\x42\x31\xa5\xe6\xa6\xd1\x05\x5e\xd0\xaa\x87\x74\xbb\x70\xde\xeb\x80\xba\x64\x4d\x8b\x15\xaa",
     )?;
-    Ok(plus(plus(plus(a, b), c), d))
+    Ok(a + b + c + d)
 }
 
 // The packet as a datagram, and as the host leaves it once it has opened it in place.
 fn datagram() -> [u8; 25] {
     let mut d = [0x04u8; 25];
-    serialize::copy_bytes(&mut d, 1, &SEALED, 0, 24);
+    d[1..].copy_from_slice(&SEALED);
     d
 }
 
 fn opened() -> [u8; 25] {
     let mut d = datagram();
-    serialize::copy_bytes(&mut d, 1, &TEXT, 0, 8);
+    d[1..9].copy_from_slice(&TEXT);
     d
 }
 
 // It arrives, at a window.
-fn arrives(guard: Guard) -> Decoded {
-    let d = datagram();
-    decode::decode(&d, 7, with_key(), guard)
+fn arrives(guard: Option<ReplayProtection>) -> Decoded {
+    decode::decode(&datagram(), 7, with_key(), guard)
 }
 
-fn decodes(to: Stdout) -> io::Result<u32> {
-    third_step(to)?;
+fn decodes(to: Stdout) -> io::Result<u32>
+    ensures { IfOk result (λ r. r ≤ 5) }
+{
+    to.write_all(b"3. The 25 bytes arrive where the window is fresh, and are decoded.\n")?;
     let first = arrives(fresh());
-    open_asked(to)?;
-    let ask = first.ask;
-    asked(to, ask)
+    to.write_all(b"   The library asks the host to open:\n")?;
+    asked(to, first.ask)
 }
 
 // What the host might have answered.
-fn refuses(to: Stdout) -> io::Result<u32> {
-    fourth_step(to)?;
+fn refuses(to: Stdout) -> io::Result<u32>
+    ensures { IfOk result (λ r. r ≤ 3) }
+{
+    to.write_all(b"4. Had the host said no, or lent other bytes:\n")?;
     let first = arrives(fresh());
-    let opening = first.opening;
-    let guard = first.guard;
-    let d = datagram();
-    let forged = decode::answer_open(opening, &d, guard, false);
-    let no = forged.answer;
-    let a = print::number(to, b"   no, refused as:", refused(no), 8)?;
-    let other = decode::answer_open(opening, b"other", guard, true);
-    let unlike = other.answer;
-    let b = print::number(to, b"   other bytes, refused as:", refused(unlike), 18)?;
-    let kept = forged.guard;
-    let again = decode::guard_refusal(bodies::PacketType::KeepAlive, kept, 0) as u64;
+    let forged = decode::answer_open(first.opening, &datagram(), first.guard, false);
+    let a = print::number(to, b"   no, refused as:", refused(forged.answer), 8)?;
+    let unlike = decode::answer_open(first.opening, b"other", first.guard, true);
+    let b = print::number(
+        to,
+        b"   other bytes, refused as:",
+        refused(unlike.answer),
+        18,
+    )?;
+    let again = refusal::number(decode::guard_refusal(PacketType::KeepAlive, forged.guard, 0));
     let c = print::number(
         to,
         b"   the window then refuses sequence 0 as, 0 for not:",
-        again,
+        u64::from(again),
         0,
     )?;
-    Ok(plus(plus(a, b), c))
+    Ok(a + b + c)
 }
 
 // What it does answer; and the same datagram once more.
-fn reads(to: Stdout) -> io::Result<u32> {
-    fifth_step(to)?;
+fn reads(to: Stdout) -> io::Result<u32>
+    ensures { IfOk result (λ r. r ≤ 3) }
+{
+    to.write_all(b"5. The host opens in place and says yes.\n")?;
     let first = arrives(fresh());
-    let opening = first.opening;
-    let guard = first.guard;
-    let text = opened();
-    let last = decode::answer_open(opening, &text, guard, true);
-    let answer = last.answer;
-    let a = print::number(to, b"   refused as, 0 for not:", refused(answer), 0)?;
-    let b = print::number(to, b"   a keep-alive, its index:", index(answer), 3)?;
-    let moved = last.guard;
-    let repeated = arrives(moved);
-    let six = repeated.answer;
+    let last = decode::answer_open(first.opening, &opened(), first.guard, true);
+    let a = print::number(to, b"   refused as, 0 for not:", refused(last.answer), 0)?;
+    let b = print::number(to, b"   a keep-alive, its index:", index(last.answer), 3)?;
+    let repeated = arrives(last.guard);
     let c = print::number(
         to,
         b"   the same bytes once more, refused as:",
-        refused(six),
+        refused(repeated.answer),
         6,
     )?;
-    Ok(plus(plus(a, b), c))
+    Ok(a + b + c)
 }
 
 // The need of a disconnect: 17 bytes under sequence 0, which no reader takes, and 18 under 1.
-fn disconnects(to: Stdout) -> io::Result<u32> {
-    sixth_step(to)?;
+fn disconnects(to: Stdout) -> io::Result<u32>
+    ensures { IfOk result (λ r. r ≤ 4) }
+{
+    to.write_all(b"6. A disconnect has no body.\n")?;
     let mut out = [0u8; 18];
     let zero = encode::encode(&mut out, Packet::Disconnect, b"", 7, with_key(), 0);
     let a = print::number(
@@ -260,8 +197,7 @@ fn disconnects(to: Stdout) -> io::Result<u32> {
         17,
     )?;
     let short = decode::decode(&[6u8; 17], 7, with_key(), fresh());
-    let one = short.answer;
-    let b = print::number(to, b" * 17 bytes, refused as:", refused(one), 1)?;
+    let b = print::number(to, b" * 17 bytes, refused as:", refused(short.answer), 1)?;
     let next = encode::encode(&mut out, Packet::Disconnect, b"", 7, with_key(), 1);
     let c = print::number(
         to,
@@ -276,42 +212,37 @@ fn disconnects(to: Stdout) -> io::Result<u32> {
         long.ask.end as u64,
         18,
     )?;
-    Ok(plus(plus(plus(a, b), c), d))
+    Ok(a + b + c + d)
 }
 
 // Requests by their length.
-fn requests(to: Stdout) -> io::Result<u32> {
-    seventh_step(to)?;
-    let without = PrivateKey {
-        given: false,
-        bytes: [0; 32],
-    };
-    let short = decode::decode(&[0u8; 1077], 7, without, fresh());
-    let nine = short.answer;
-    let a = print::number(to, b"   1,077 bytes, refused as:", refused(nine), 9)?;
-    let whole = decode::decode(&[0u8; 1078], 7, without, fresh());
-    let read = whole.answer;
+fn requests(to: Stdout) -> io::Result<u32>
+    ensures { IfOk result (λ r. r ≤ 3) }
+{
+    to.write_all(b"7. A request needs no key, and 1,078 bytes.\n")?;
+    let short = decode::decode(&[0u8; 1077], 7, None, fresh());
+    let a = print::number(to, b"   1,077 bytes, refused as:", refused(short.answer), 9)?;
+    let whole = decode::decode(&[0u8; 1078], 7, None, fresh());
     let b = print::number(
         to,
         b"   1,078 bytes, refused as, 0 for not:",
-        refused(read),
+        refused(whole.answer),
         0,
     )?;
-    let three = decode::decode(&[4u8; 25], 7, without, fresh());
-    let keyless = three.answer;
+    let keyless = decode::decode(&[4u8; 25], 7, None, fresh());
     let c = print::number(
         to,
         b"   a keep-alive without a key, refused as:",
-        refused(keyless),
+        refused(keyless.answer),
         3,
     )?;
-    Ok(plus(plus(a, b), c))
+    Ok(a + b + c)
 }
 
 fn main(rt: HostRuntime) -> io::Result<()> {
     let to = rt.stdout();
     let written = encodes(to)?;
-    let read = plus(decodes(to)?, plus(refuses(to)?, reads(to)?));
-    let right = plus(plus(written, read), plus(disconnects(to)?, requests(to)?));
+    let read = decodes(to)? + refuses(to)? + reads(to)?;
+    let right = written + read + disconnects(to)? + requests(to)?;
     println!(to; "{right} of 26 lines hold")
 }

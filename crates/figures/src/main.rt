@@ -23,9 +23,8 @@ fn sequence(to: Stdout, name: &[u8], bytes: &[u8], want: u64) -> io::Result<u32>
     ensures { IfOk result (λ r. r ≤ 1) }
 {
     match prefix::read_sequence(bytes, 0, bytes.len()) {
-        prefix::Sequence::Number(v) => print::number(to, name, v, want),
-        prefix::Sequence::TooLong => print::refused(to, name),
-        prefix::Sequence::Short => print::refused(to, name),
+        Ok(v) => print::number(to, name, v, want),
+        Err(_) => print::refused(to, name),
     }
 }
 
@@ -88,12 +87,14 @@ fn reads(to: Stdout) -> io::Result<u32>
         0xffff_ffff_ffff_ffff,
     )?;
     let claimed = prefix::decode_prefix(0x91).count;
-    let zeros = [0u8; 17];
-    let answer = prefix::read_sequence(&zeros, 0, claimed);
+    let refused = match prefix::read_sequence(&[0u8; 17], 0, claimed) {
+        Ok(_) => 0,
+        Err(refusal) => refusal.number(),
+    };
     let f = print::number(
         to,
         b"  prefix 91 and 17 zero bytes, refused as:",
-        answer.refusal() as u64,
+        u64::from(refused),
         4,
     )?;
     Ok(a + b + c + d + e + f)
@@ -127,7 +128,7 @@ fn sealed(to: Stdout) -> io::Result<u32>
     Ok(a + b + c)
 }
 
-// What refuses a sequence, 0 for none.
+// The number of what refuses a sequence, 0 for none.
 fn refused(
     to: Stdout,
     name: &[u8],
@@ -137,7 +138,8 @@ fn refused(
 ) -> io::Result<u32>
     ensures { IfOk result (λ r. r ≤ 1) }
 {
-    print::number(to, name, window.refusal(sequence) as u64, want)
+    let number = refusal::number(window.refusal(sequence));
+    print::number(to, name, u64::from(number), want)
 }
 
 fn window(to: Stdout) -> io::Result<u32>
@@ -182,10 +184,10 @@ fn in_table(to: Stdout) -> io::Result<u32>
     let mut table = [7u64; 259];
     replay_protection::store_window(&mut table, 1, replay_protection::ReplayProtection::new());
     replay_protection::advance_at(&mut table, 1, 300);
-    let refused = replay_protection::refusal_at(&table, 1, 44) as u64;
-    let a = print::number(to, b"  after 300, sequence 44:", refused, 6)?;
-    let accepted = replay_protection::refusal_at(&table, 1, 45) as u64;
-    let b = print::number(to, b"  after 300, sequence 45:", accepted, 0)?;
+    let behind = refusal::number(replay_protection::refusal_at(&table, 1, 44));
+    let a = print::number(to, b"  after 300, sequence 44:", u64::from(behind), 6)?;
+    let near = refusal::number(replay_protection::refusal_at(&table, 1, 45));
+    let b = print::number(to, b"  after 300, sequence 45:", u64::from(near), 0)?;
     replay_protection::advance_at(&mut table, 1, 44);
     let loaded = replay_protection::load_window(&table, 1);
     let c = print::number(

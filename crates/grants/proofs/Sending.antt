@@ -19,9 +19,8 @@ use Rattle.addresses.specs.declared.Address.{Address}
 use Rattle.asks.specs.declared.Work.TheVariants as work
 use Rattle.asks.specs.Asks.{token_ask}
 use Rattle.encode.specs.declared.Encoding.TheVariants.{Asked}
-use Rattle.encode.specs.declared.Sealing.TheVariants.{Open}
 use Rattle.encode.specs.declared.Encoded.{Encoded}
-use Rattle.encode.specs.Encodes.{Done, done, encoded_as}
+use Rattle.encode.specs.Encodes.{Done, done, encoded_as, open_at}
 use Rattle.encode.specs.Generates.{generate_challenge}
 use Rattle.server.specs.declared.NetcodeServer.{NetcodeServer}
 use Rattle.server.specs.declared.Ask.{Ask}
@@ -84,7 +83,7 @@ module _ (out : List ℕ) (global sequence : ℕ) (key : List ℕ) (id : ℕ) (u
     abbrev written : Done
     written =
         done
-        (encoded_as Asked (token_ask work.Seal key sequence (token_start global) (token_start global + 300)) (Open (token_start global + 300) (length u)))
+        (encoded_as Asked (token_ask work.Seal key sequence (token_start global) (token_start global + 300)) (open_at (token_start global + 300) (length u)))
         (splice u (token_start global) (token_clear (token id user)))
 
     pub challenge_written : (r : Encoded) (v : List ℕ) → done r v ≡ generate_challenge u (1 + n + 8) (token id user) sequence key

@@ -1,7 +1,5 @@
 -- What is done with a private token that the host opened (document 01, "How a connection lives", Request).
-use Rattle.std.specs.Prelude.{ℕ, ◌+◌, ◌-◌, ◌^◌, Bool, not, ◌&&◌, ◌||◌, List, ◌++◌, length, eqb, leb}
-use Rattle.serialize.specs.declared.Found.{Found}
-use Rattle.serialize.specs.declared.Found.TheVariants.{At, Nothing}
+use Rattle.std.specs.Prelude.{ℕ, ◌+◌, ◌-◌, ◌^◌, Bool, not, ◌&&◌, ◌||◌, List, ◌++◌, length, eqb, leb, Option, Some, None}
 use Rattle.serialize.specs.Choice.{pick}
 use Rattle.serialize.specs.Runs.{splice}
 use Rattle.serialize.specs.Le.{to_le}
@@ -80,9 +78,9 @@ challenged s datagram addr expiry p held out =
 -- ---- no room: drop pending, send denied
 
 -- the pending place of an address, if there is one, emptied
-unfoldable pub dropped : List ℕ → Found → List ℕ
-dropped pending (At j) = emptied pending j
-dropped pending Nothing = pending
+unfoldable pub dropped : List ℕ → Option ℕ → List ℕ
+dropped pending (Some j) = emptied pending j
+dropped pending None = pending
 
 -- what was prepared, and the pending table
 abbrev pub beside : List ℕ → Prepared → Met

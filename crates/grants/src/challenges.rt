@@ -5,11 +5,10 @@ ghost use Rattle.grants.specs.Tokens.{held_of, challenge_out, challenge_ask, cha
 
 use crate::PrivateConnectToken;
 use addresses::Address;
+use bodies::PacketType;
+use refusal::{Refusal, Why};
 use server::{Answer, Ask, Counters, Goal, HELD_BYTES, NetcodeServer, Stage};
 use turns::{MOST, Turn};
-
-// Type 2.
-const CHALLENGE: u8 = 2;
 
 // Head, token sequence and token in clear, from the output's start; the ask to seal the token there. The places of both tags stay.
 fn write_challenge(
@@ -23,7 +22,7 @@ fn write_challenge(
     requires { 1400 ≤ length out.old }
     ensures { sealing result out.new ≡ sealing (challenge_ask global_sequence challenge_sequence challenge_key) (challenge_out out.old global_sequence challenge_sequence client_id user_data) }
 {
-    out[0] = prefix::encode_prefix(CHALLENGE, global_sequence);
+    out[0] = prefix::encode_prefix(PacketType::Challenge.to_u8(), global_sequence);
     let count = prefix::write_sequence(out, 1, global_sequence);
     let start = 1 + count;
     serialize::write_u64(out, start, challenge_sequence);
@@ -56,7 +55,7 @@ fn send_challenge(
     let counters = server.counters;
     let sequence = counters.global_sequence;
     if sequence == MOST {
-        return turns::closed(server, Answer::Refused(15));
+        return turns::closed(server, Answer::Refused(Refusal(Why::CounterSpent)));
     }
     let len = out.len();
     let challenge_key = set.challenge_key;
@@ -112,7 +111,7 @@ pub fn challenge(
 {
     let counters = server.counters;
     if counters.challenge_sequence == MOST {
-        return turns::closed(server, Answer::Refused(15));
+        return turns::closed(server, Answer::Refused(Refusal(Why::CounterSpent)));
     }
     let raised = Counters {
         global_sequence: counters.global_sequence,

@@ -2,12 +2,14 @@
 #![tactic(auto)]
 
 ghost use Rattle.std.specs.Prelude.{◌≡◌, ◌≤◌, length};
+ghost use Rattle.refusal.specs.Verdicts.{verdict};
 ghost use Rattle.places.specs.Layout.{Shaped};
 ghost use Rattle.entries.specs.Layout as entry;
 ghost use Rattle.turns.specs.Outcomes.{state, came};
 ghost use Rattle.grants.specs.Grants.{granted, list_unfit, fields_refusal, grant_refusal, foreign, granted_at, grants};
 
-use server::{Answer, HELD_BYTES, NetcodeServer, SetUp, Stage};
+use refusal::{Refusal, Why};
+use server::{Answer, HELD_BYTES, NetcodeServer, SetUp, Stage, Wanted};
 use turns::Turn;
 
 mod challenges;
@@ -26,9 +28,6 @@ pub struct PrivateConnectToken {
 // The most addresses that a token has.
 const NETCODE_MAX_SERVER_ADDRESSES: usize = 32;
 
-// The kind of answer that an ask to open a private token wants.
-const GRANTS: u8 = 2;
-
 // Words that are no list of 0 to 32 well-formed addresses.
 fn is_unfit(list: &[u64]) -> bool
     ensures { result ≡ list_unfit list.now }
@@ -36,22 +35,21 @@ fn is_unfit(list: &[u64]) -> bool
     if list.len() % 3 != 0 {
         return true;
     }
-    if addresses::count_addresses(list) > NETCODE_MAX_SERVER_ADDRESSES {
-        return true;
-    }
-    addresses::list_refusal(list) != 0
+    addresses::count_addresses(list) > NETCODE_MAX_SERVER_ADDRESSES
+        || addresses::list_refusal(list).is_err()
 }
 
-// 18 for the fields of a yes; a no brings none.
-fn fields_refusal(given: bool, list: &[u64]) -> u8
-    ensures { result ≡ fields_refusal given list.now }
+// 18 for the fields of a yes; a no brings none. The host says yes or no beside them, as the C interface has it.
+fn fields_refusal(given: bool, list: &[u64]) -> Result<(), Refusal>
+    ensures { result ≡ verdict (fields_refusal given list.now) }
 {
-    if given {
-        if is_unfit(list) {
-            return 18;
-        }
+    if !given {
+        return Ok(());
     }
-    0
+    if is_unfit(list) {
+        return Err(Refusal(Why::AnswerUnfit));
+    }
+    Ok(())
 }
 
 // 17, 23, 18.
@@ -65,15 +63,12 @@ fn grant_refusal(
     out: usize,
     given: bool,
     list: &[u64],
-) -> u8
-    ensures { result ≡ grant_refusal (state server slots.now pending.now) entries public datagram out given list.now }
+) -> Result<(), Refusal>
+    ensures { result ≡ verdict (grant_refusal (state server slots.now pending.now) entries public datagram out given list.now) }
 {
     let set = server.set;
     let tables = server::all_tables_refusal(set, slots.len(), pending.len(), entries, public);
-    let refusal = turns::open_refusal(server, tables, GRANTS, datagram, out);
-    if refusal != 0 {
-        return refusal;
-    }
+    turns::open_refusal(server, tables, Wanted::Token, datagram, out)?;
     fields_refusal(given, list)
 }
 
@@ -81,13 +76,7 @@ fn grant_refusal(
 fn is_foreign(set: SetUp, list: &[u64], public: &[u64]) -> bool
     ensures { result ≡ foreign set list.now public.now }
 {
-    if set.secure {
-        if addresses::any_ours(list, public) {
-            return false;
-        }
-        return true;
-    }
-    false
+    set.secure && !addresses::any_ours(list, public)
 }
 
 // After a yes, by the ask's stage. Only a private token's gets here; the others were refused.
@@ -110,8 +99,8 @@ fn grant(
     let ask = server.ask;
     let stage = ask.stage;
     match stage {
-        Stage::Idle => turns::refused(server, 17),
-        Stage::Packet { .. } => turns::refused(server, 18),
+        Stage::Idle => turns::refused(server, Refusal(Why::NoAsk)),
+        Stage::Packet { .. } => turns::refused(server, Refusal(Why::AnswerUnfit)),
         Stage::Token {
             addr,
             expire_timestamp,
@@ -119,7 +108,7 @@ fn grant(
             mac_high,
         } => {
             if is_foreign(set, list, public) {
-                return turns::closed(server, Answer::Refused(13));
+                return turns::closed(server, Answer::Refused(Refusal(Why::NotForUs)));
             }
             tokens::consider(
                 server,
@@ -136,8 +125,8 @@ fn grant(
                 out,
             )
         }
-        Stage::Challenge { .. } => turns::refused(server, 18),
-        Stage::Seal { .. } => turns::refused(server, 18),
+        Stage::Challenge { .. } => turns::refused(server, Refusal(Why::AnswerUnfit)),
+        Stage::Seal { .. } => turns::refused(server, Refusal(Why::AnswerUnfit)),
     }
 }
 
@@ -157,7 +146,7 @@ pub fn answer_token(
 ) -> Turn
     ensures { granted (came result slots.now pending.new) entries.new held.new out.new ≡ grants (state server slots.now pending.old) given token list.now entries.old public.now held.old out.old (length datagram.now) }
 {
-    let refusal = grant_refusal(
+    let tested = grant_refusal(
         server,
         slots,
         pending,
@@ -168,7 +157,7 @@ pub fn answer_token(
         given,
         list,
     );
-    if refusal != 0 {
+    if let Err(refusal) = tested {
         return turns::refused(server, refusal);
     }
     if given {
@@ -177,5 +166,5 @@ pub fn answer_token(
             server, token, list, slots, pending, entries, public, held, out, len,
         );
     }
-    turns::closed(server, Answer::Refused(8))
+    turns::closed(server, Answer::Refused(Refusal(Why::NotOpened)))
 }

@@ -2,26 +2,15 @@
 ghost use Rattle.std.specs.Prelude.{◌≡◌, ◌≤◌, ◌||◌, length};
 ghost use Rattle.places.specs.Layout.{Shaped};
 ghost use Rattle.places.specs.Finds.{find_address};
-ghost use Rattle.addresses.specs.Addresses.{is_found};
 ghost use Rattle.entries.specs.Layout as entry;
 ghost use Rattle.grants.specs.Tokens.{met, dropped, welcomed, is_connected, no_place, use_of, admitted, considered};
 
 use crate::{PrivateConnectToken, challenges};
 use addresses::Address;
 use entries::ConnectTokenEntry;
-use serialize::Found;
 use server::{Answer, HELD_BYTES, NetcodeServer};
 use times::Time;
 use turns::Turn;
-
-fn is_found(found: Found) -> bool
-    ensures { result ≡ is_found found }
-{
-    match found {
-        Found::At(_) => true,
-        Found::Nothing => false,
-    }
-}
 
 // The address or the id is connected.
 fn is_connected(server: NetcodeServer, slots: &[u64], addr: Address, client_id: u64) -> bool
@@ -29,10 +18,8 @@ fn is_connected(server: NetcodeServer, slots: &[u64], addr: Address, client_id: 
     ensures { result ≡ is_connected server slots.now addr client_id }
 {
     let set = server.set;
-    if is_found(places::find_by_address(slots, set.slots, addr)) {
-        return true;
-    }
-    is_found(places::find_by_id(slots, set.slots, client_id))
+    places::find_by_address(slots, set.slots, addr).is_some()
+        || places::find_by_id(slots, set.slots, client_id).is_some()
 }
 
 // The address is not pending, and no pending place is free.
@@ -41,10 +28,8 @@ fn has_no_place(server: NetcodeServer, pending: &[u64], addr: Address) -> bool
     ensures { result ≡ no_place server pending.now addr }
 {
     let set = server.set;
-    if is_found(places::find_by_address(pending, set.pending, addr)) {
-        return false;
-    }
-    !is_found(places::find_free(pending, set.pending))
+    places::find_by_address(pending, set.pending, addr).is_none()
+        && places::find_free(pending, set.pending).is_none()
 }
 
 // Either of these.
@@ -58,10 +43,7 @@ fn is_ignored(
     requires { Shaped slots.now server.set.slots × Shaped pending.now server.set.pending }
     ensures { result ≡ is_connected server slots.now addr client_id || no_place server pending.now addr }
 {
-    if is_connected(server, slots, addr, client_id) {
-        return true;
-    }
-    has_no_place(server, pending, addr)
+    is_connected(server, slots, addr, client_id) || has_no_place(server, pending, addr)
 }
 
 // The pending place of an address, if there is one, is emptied.
@@ -70,8 +52,8 @@ fn drop_pending(pending: &mut [u64], m: usize, addr: Address)
     ensures { pending.new ≡ dropped pending.old (find_address pending.old m addr) }
 {
     match places::find_by_address(pending, m, addr) {
-        Found::At(j) => records::empty(pending, m, j),
-        Found::Nothing => {}
+        Some(j) => records::empty(pending, m, j),
+        None => {}
     }
 }
 

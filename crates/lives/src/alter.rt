@@ -1,23 +1,22 @@
 // Lines that alter the record or a table between calls, as the Rust's server was altered.
+use crate::kinds::Line;
 use crate::text;
+use crate::world::World;
 
 // ---- words
 
-fn put(table: &mut [u64], at: usize, value: u64) {
-    if at < table.len() {
-        table[at] = value;
-    }
-}
-
-// So many words from an index on are this one.
+// So many words from an index on are this one, those that there are.
 fn fill(table: &mut [u64], from: usize, times: usize, value: u64) {
     for i in 0..times {
-        put(table, std::num::wrapping_add_usize(from, i), value);
+        let at = from.wrapping_add(i);
+        if at < table.len() {
+            table[at] = value;
+        }
     }
 }
 
 fn fill_as(left: &[u8], table: &mut [u64]) {
-    let times = text::least(text::number(left, 3) as usize, table.len());
+    let times = (text::number(left, 3) as usize).min(table.len());
     fill(
         table,
         text::number(left, 2) as usize,
@@ -26,11 +25,11 @@ fn fill_as(left: &[u8], table: &mut [u64]) {
     );
 }
 
-fn words(left: &[u8], server: &mut [u64; 34], slots: &mut [u64; 2480], pending: &mut [u64; 1240]) {
-    match text::first(text::token(left, 1)) {
-        b'r' => fill_as(left, server),
-        b's' => fill_as(left, slots),
-        _ => fill_as(left, pending),
+fn words(left: &[u8], world: &mut World) {
+    match text::first(tokens::token(left, 1)) {
+        b'r' => fill_as(left, &mut world.server),
+        b's' => fill_as(left, &mut world.slots),
+        _ => fill_as(left, &mut world.pending),
     }
 }
 
@@ -40,21 +39,17 @@ fn words(left: &[u8], server: &mut [u64; 34], slots: &mut [u64; 2480], pending: 
 fn put_entry(entries: &mut [u8; 98304], place: usize, body: &[u8; 47]) {
     let i = place % 2048;
     entries[i] = 1;
-    serialize::copy_bytes(entries, 2048 + 47 * i, body, 0, 47);
+    serialize::copy(entries, 2048 + 47 * i, body, 0, 47);
 }
 
 fn entry(left: &[u8], entries: &mut [u8; 98304]) {
-    let mut body = [0u8; 47];
-    text::bytes(left, 2, &mut body);
+    let body = tokens::array::<47>(left, 2);
     put_entry(entries, text::number(left, 1) as usize, &body);
 }
 
 // The seconds of an entry when all are used: two have the lowest.
 fn seconds(place: u64, lowest: u64, again: u64) -> u8 {
-    if place == lowest {
-        return 0;
-    }
-    if place == again {
+    if place == lowest || place == again {
         return 0;
     }
     (1 + place % 3) as u8
@@ -75,14 +70,7 @@ fn made(place: u64, lowest: u64, again: u64) -> [u8; 47] {
     body[29] = 9;
     body[31] = low;
     body[32] = high;
-    body[39] = 0xee;
-    body[40] = 0xee;
-    body[41] = 0xee;
-    body[42] = 0xee;
-    body[43] = 0xee;
-    body[44] = 0xee;
-    body[45] = 0xee;
-    body[46] = 0xee;
+    body[39..47].fill(0xee);
     body
 }
 
@@ -94,18 +82,11 @@ fn all_entries(left: &[u8], entries: &mut [u8; 98304]) {
     }
 }
 
-pub(crate) fn alter(
-    letter: u8,
-    left: &[u8],
-    server: &mut [u64; 34],
-    slots: &mut [u64; 2480],
-    pending: &mut [u64; 1240],
-    entries: &mut [u8; 98304],
-) {
-    match letter {
-        b'K' => words(left, server, slots, pending),
-        b'Y' => entry(left, entries),
-        b'F' => all_entries(left, entries),
+pub(crate) fn alter(line: Line, left: &[u8], world: &mut World) {
+    match line {
+        Line::Words => words(left, world),
+        Line::Entry => entry(left, &mut world.entries),
+        Line::AllEntries => all_entries(left, &mut world.entries),
         _ => {}
     }
 }

@@ -2,8 +2,7 @@
 // used places alone. Two tables that differ in what a used place holds have, but for one case in four thousand million, other numbers.
 ghost use Rattle.std.specs.Prelude.{◌+◌, ◌*◌, ◌<◌, ◌≤◌, length};
 
-use crate::say;
-use crate::say::ROOM;
+use crate::say::Said;
 
 // The largest prime under 2^32.
 const P: u64 = 4294967291;
@@ -15,15 +14,15 @@ fn step(h: u64, w: u64) -> u64
     (h * 31 + (w % 4294967296) * 7 + w / 4294967296) % P
 }
 
-// ---- connections
+// ---- connections, by places, since each stands in four columns
 
 fn words(table: &[u64], at: usize, n: usize, from: u64) -> u64
     requires { (at + n ≤ length table.now) × (from < 4294967291) }
     ensures { result < 4294967291 }
 {
     let mut h = from;
-    for i in 0..n {
-        h = step(h, table[at + i]);
+    for w in &table[at..at + n] {
+        h = step(h, *w);
     }
     h
 }
@@ -78,17 +77,13 @@ fn pending(table: &[u64]) -> u64 {
 
 // ---- token entries
 
-fn wide(b: u8) -> u64 {
-    b as u64
-}
-
 fn body(table: &[u8], at: usize, from: u64) -> u64
     requires { (at + 47 ≤ length table.now) × (from < 4294967291) }
     ensures { result < 4294967291 }
 {
     let mut h = from;
-    for i in 0..47usize {
-        h = step(h, wide(table[at + i]));
+    for b in &table[at..at + 47] {
+        h = step(h, u64::from(*b));
     }
     h
 }
@@ -113,13 +108,6 @@ fn entries(table: &[u8]) -> u64 {
 }
 
 // The three, slots, pending and token entries, after what was said.
-pub(crate) fn tell(
-    said: &mut [u8; ROOM],
-    at: usize,
-    connected: &[u64],
-    asking: &[u64],
-    used: &[u8],
-) -> usize {
-    let three = [slots(connected), pending(asking), entries(used)];
-    say::numbers(said, at, &three)
+pub(crate) fn tell(said: &mut Said, connected: &[u64], asking: &[u64], used: &[u8]) {
+    said.numbers(&[slots(connected), pending(asking), entries(used)]);
 }

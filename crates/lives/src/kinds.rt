@@ -1,59 +1,105 @@
 // The shape of what a line gives: its letter, as many tokens as it has, each of its kind, and the sign.
 use crate::text;
 
+// What a line does: a call of the server, a query, or a change of what the next call is lent.
+#[derive(Clone, Copy, PartialEq, Eq)]
+pub(crate) enum Line {
+    SetUp,
+    Update,
+    SetMaxClients,
+    Packet,
+    AnswerOpen,
+    AnswerToken,
+    AnswerSeal,
+    Payload,
+    UpdateClient,
+    Disconnect,
+    Query,
+    Words,
+    Entry,
+    AllEntries,
+    Lend,
+}
+
+impl Line {
+    // Whether it makes no call.
+    pub(crate) fn is_setting(self) -> bool {
+        matches!(
+            self,
+            Line::Words | Line::Entry | Line::AllEntries | Line::Lend
+        )
+    }
+
+    // The line of a letter, which the stored sample has.
+    fn of(letter: u8) -> Option<Line> {
+        match letter {
+            b'S' => Some(Line::SetUp),
+            b'U' => Some(Line::Update),
+            b'M' => Some(Line::SetMaxClients),
+            b'P' => Some(Line::Packet),
+            b'O' => Some(Line::AnswerOpen),
+            b'T' => Some(Line::AnswerToken),
+            b'E' => Some(Line::AnswerSeal),
+            b'G' => Some(Line::Payload),
+            b'C' => Some(Line::UpdateClient),
+            b'D' => Some(Line::Disconnect),
+            b'Q' => Some(Line::Query),
+            b'K' => Some(Line::Words),
+            b'Y' => Some(Line::Entry),
+            b'F' => Some(Line::AllEntries),
+            b'L' => Some(Line::Lend),
+            _ => None,
+        }
+    }
+
+    // The kinds of its tokens.
+    fn shape(self) -> &'static [u8] {
+        match self {
+            Line::SetUp => b"nnnnyKKspeA=",
+            Line::Update => b"nn=",
+            Line::SetMaxClients => b"n=",
+            Line::Packet => b"owID=",
+            Line::AnswerOpen => b"yD=",
+            Line::AnswerToken => b"ynlKKUT=",
+            Line::AnswerSeal => b"yP=",
+            Line::Payload => b"nD=",
+            Line::UpdateClient => b"n=",
+            Line::Disconnect => b"n=",
+            Line::Query => b"n=",
+            Line::Words => b"tnnn=",
+            Line::Entry => b"iE=",
+            Line::AllEntries => b"ii=",
+            Line::Lend => b"xn=",
+        }
+    }
+}
+
 fn is_number(word: &[u8]) -> bool {
-    if word.len() == 0 {
-        return false;
-    }
-    if word.len() > 20 {
-        return false;
-    }
-    text::are_digits(word, 10)
+    !word.is_empty() && word.len() <= 20 && tokens::are_digits::<10>(word)
 }
 
 fn is_number_to(word: &[u8], most: u64) -> bool {
-    if is_number(word) {
-        return text::value(word) <= most;
-    }
-    false
+    is_number(word) && tokens::value::<10>(word) <= most
 }
 
 fn is_bytes_of(word: &[u8], n: usize) -> bool {
-    if word.len() % 2 != 0 {
-        return false;
-    }
-    if word.len() / 2 != n {
-        return false;
-    }
-    text::are_digits(word, 16)
+    word.len() % 2 == 0 && word.len() / 2 == n && tokens::are_digits::<16>(word)
+}
+
+// The sign of none.
+fn is_none(word: &[u8]) -> bool {
+    word == b"-".as_slice()
 }
 
 // Up to so many bytes; the sign of none is for none.
 fn is_bytes_to(word: &[u8], most: usize) -> bool {
-    if text::same(word, b"-") {
-        return true;
-    }
-    if word.len() == 0 {
-        return false;
-    }
-    if word.len() / 2 > most {
-        return false;
-    }
-    is_bytes_of(word, word.len() / 2)
+    is_none(word)
+        || (!word.is_empty() && word.len() / 2 <= most && is_bytes_of(word, word.len() / 2))
 }
 
 // Up to so many addresses of 24 bytes.
 fn is_addresses_to(word: &[u8], most: usize) -> bool {
-    if text::same(word, b"-") {
-        return true;
-    }
-    if word.len() % 48 != 0 {
-        return false;
-    }
-    if word.len() / 48 > most {
-        return false;
-    }
-    is_bytes_to(word, 8192)
+    is_none(word) || (word.len() % 48 == 0 && word.len() / 48 <= most && is_bytes_to(word, 8192))
 }
 
 // Kinds by a letter. Of numbers: any, of 32, 16 and 8 bits, yes or no, the places of the tables that there are here, a token entry.
@@ -74,26 +120,16 @@ fn is_number_of(word: &[u8], kind: u8) -> bool {
 
 // The record, the slots or pending: what has words.
 fn is_table(word: &[u8]) -> bool {
-    match text::first(word) {
-        b'r' => word.len() == 1,
-        b's' => word.len() == 1,
-        b'p' => word.len() == 1,
-        _ => false,
-    }
+    word.len() == 1 && matches!(text::first(word), b'r' | b's' | b'p')
 }
 
 // Slots, pending, token entries, public addresses, the output, the datagram, the lists.
 fn is_lent(word: &[u8]) -> bool {
-    match text::first(word) {
-        b's' => word.len() == 1,
-        b'p' => word.len() == 1,
-        b'e' => word.len() == 1,
-        b'a' => word.len() == 1,
-        b'o' => word.len() == 1,
-        b'd' => word.len() == 1,
-        b'l' => word.len() == 1,
-        _ => false,
-    }
+    word.len() == 1
+        && matches!(
+            text::first(word),
+            b's' | b'p' | b'e' | b'a' | b'o' | b'd' | b'l'
+        )
 }
 
 // Of bytes, by a capital: an address, a key, user data, a datagram or payload, a packet, a token entry, public addresses, a token's; and the
@@ -108,7 +144,7 @@ fn is_of(word: &[u8], kind: u8) -> bool {
         b'E' => is_bytes_of(word, 47),
         b'A' => is_addresses_to(word, 4),
         b'T' => is_addresses_to(word, 64),
-        b'=' => text::same(word, b"="),
+        b'=' => word == b"=".as_slice(),
         b't' => is_table(word),
         b'x' => is_lent(word),
         _ => is_number_of(word, kind),
@@ -117,63 +153,27 @@ fn is_of(word: &[u8], kind: u8) -> bool {
 
 // Whether the tokens after the letter are of these kinds, no more and no fewer.
 fn is_shaped(left: &[u8], kinds: &[u8]) -> bool {
-    if text::spaces(left) != kinds.len() {
+    if tokens::spaces(left) != kinds.len() {
         return false;
     }
-    for i in 0..kinds.len() {
-        if is_of(text::token(left, i + 1), kinds[i]) {} else {
+    for (i, kind) in kinds.iter().enumerate() {
+        if !is_of(tokens::token(left, i + 1), *kind) {
             return false;
         }
     }
     true
 }
 
-// Whether a line up to its sign alters a table or lends less, and makes no call.
-fn is_setting_of(left: &[u8], letter: u8) -> bool {
-    match letter {
-        b'K' => is_shaped(left, b"tnnn="),
-        b'Y' => is_shaped(left, b"iE="),
-        b'F' => is_shaped(left, b"ii="),
-        b'L' => is_shaped(left, b"xn="),
-        _ => false,
-    }
-}
-
-// Whether a line up to its sign is one of this letter.
-fn is_line_of(left: &[u8], letter: u8) -> bool {
-    match letter {
-        b'S' => is_shaped(left, b"nnnnyKKspeA="),
-        b'U' => is_shaped(left, b"nn="),
-        b'M' => is_shaped(left, b"n="),
-        b'P' => is_shaped(left, b"owID="),
-        b'O' => is_shaped(left, b"yD="),
-        b'T' => is_shaped(left, b"ynlKKUT="),
-        b'E' => is_shaped(left, b"yP="),
-        b'G' => is_shaped(left, b"nD="),
-        b'C' => is_shaped(left, b"n="),
-        b'D' => is_shaped(left, b"n="),
-        b'Q' => is_shaped(left, b"n="),
-        _ => is_setting_of(left, letter),
-    }
-}
-
-// The letters of lines that make no call.
-pub(crate) fn is_setting(letter: u8) -> bool {
-    match letter {
-        b'K' => true,
-        b'Y' => true,
-        b'F' => true,
-        b'L' => true,
-        _ => false,
-    }
-}
-
-// The line's letter, or a space where it is none of these.
-pub(crate) fn letter(left: &[u8]) -> u8 {
-    let word = text::token(left, 0);
+// What a line up to its sign does; None where it is none of these.
+pub(crate) fn line_of(left: &[u8]) -> Option<Line> {
+    let word = tokens::token(left, 0);
     if word.len() != 1 {
-        return b' ';
+        return None;
     }
-    let c = text::first(word);
-    if is_line_of(left, c) { c } else { b' ' }
+    let line = Line::of(text::first(word))?;
+    if is_shaped(left, line.shape()) {
+        Some(line)
+    } else {
+        None
+    }
 }

@@ -2,49 +2,67 @@
 use std::io;
 use std::io::{Read, Stdin};
 
-// What was read and not yet taken is from window[0] up to window[1]; whether there is any, once more was read where there was none.
-fn is_ready(
-    input: &mut Stdin,
-    space: &mut [u8; 65536],
-    window: &mut [usize; 2],
-) -> io::Result<bool> {
-    if window[0] < window[1] {
-        return Ok(true);
-    }
-    let n = input.read(space)?;
-    *window = [0, n];
-    Ok(n > 0)
+// What was read and not yet taken is from start up to end of the space; the line is the first `len` bytes of its place.
+#[derive(Drop)]
+pub(crate) struct Lines {
+    input: Stdin,
+    space: [u8; 65536],
+    start: usize,
+    end: usize,
+    line: [u8; 16384],
+    len: usize,
 }
 
-// The next byte of what was read.
-fn taken(space: &[u8; 65536], window: &mut [usize; 2]) -> u8 {
-    let at = window[0];
-    if at < 65536 {
-        window[0] = at + 1;
-        return space[at];
+impl Lines {
+    pub(crate) fn new(input: Stdin) -> Lines {
+        Lines {
+            input,
+            space: [0; 65536],
+            start: 0,
+            end: 0,
+            line: [0; 16384],
+            len: 0,
+        }
     }
-    b'\n'
-}
 
-// The next line, its end with it, at the start of line; how many bytes it has, 0 where the input is over. A line that does not fit comes
-// in parts, and only the last of them has an end.
-pub(crate) fn next(
-    input: &mut Stdin,
-    space: &mut [u8; 65536],
-    window: &mut [usize; 2],
-    line: &mut [u8; 16384],
-) -> io::Result<usize> {
-    let mut at: usize = 0;
-    while at < 16384 {
-        if is_ready(input, space, window)? {} else {
-            return Ok(at);
+    // The next byte, once more was read where there was none; None where the input is over.
+    fn next(&mut self) -> io::Result<Option<u8>> {
+        if self.start >= self.end {
+            self.end = self.input.read(&mut self.space)?;
+            self.start = 0;
         }
-        let c = taken(space, window);
-        line[at] = c;
-        at += 1;
-        if c == b'\n' {
-            return Ok(at);
+        let at = self.start;
+        if at < self.end && at < 65536 {
+            self.start = at + 1;
+            return Ok(Some(self.space[at]));
+        }
+        Ok(None)
+    }
+
+    // Reads the next line, its end with it; false where the input is over. A line that does not fit comes in parts, and only the last of
+    // them has an end.
+    pub(crate) fn read(&mut self) -> io::Result<bool> {
+        self.len = 0;
+        for at in 0..16384usize {
+            match self.next()? {
+                None => return Ok(at > 0),
+                Some(c) => {
+                    self.line[at] = c;
+                    self.len = at + 1;
+                    if c == b'\n' {
+                        return Ok(true);
+                    }
+                }
+            }
+        }
+        Ok(true)
+    }
+
+    // The line without its end; what has none is no call.
+    pub(crate) fn line(&self) -> &[u8] {
+        match bodies::field(&self.line, 0, 0, self.len) {
+            [line @ .., b'\n'] => line,
+            _ => bodies::field(&self.line, 0, 0, 0),
         }
     }
-    Ok(at)
 }

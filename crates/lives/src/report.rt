@@ -1,183 +1,175 @@
 // What was counted, and what is printed of it.
-ghost use Rattle.std.specs.Prelude.{◌+◌, ◌<◌, ◌≤◌};
-
+use crate::kinds::Line;
 use crate::text;
 use std::io;
 
-// Calls of each letter; lines that make none; lines that are neither; answers of each case; of each refusal's number; lines as the Rust's; with a change that was noticed.
-pub(crate) const COUNTS: usize = 46;
+const LETTERS: [&[u8]; 11] = [
+    b"S", b"U", b"M", b"P", b"O", b"T", b"E", b"G", b"C", b"D", b"Q",
+];
 
-const LETTERS: [u8; 21] = *b"S U M P O T E G C D Q";
+const CASES: [&[u8]; 7] = [
+    b"refused",
+    b"nothing",
+    b"ask",
+    b"packet_to_send",
+    b"payload",
+    b"connected",
+    b"disconnected",
+];
 
-const CASES: [u8; 65] = *b"refused nothing ask packet_to_send payload connected disconnected";
+const NUMBERS: [&[u8]; 24] = [
+    b"1", b"2", b"3", b"4", b"5", b"6", b"7", b"8", b"9", b"10", b"11", b"12", b"13", b"14", b"15",
+    b"16", b"17", b"18", b"19", b"20", b"21", b"22", b"23", b"24",
+];
 
-const NUMBERS: [u8; 62] = *b"1 2 3 4 5 6 7 8 9 10 11 12 13 14 15 16 17 18 19 20 21 22 23 24";
-
-const SETTING: usize = 11;
-
-const OTHER: usize = 12;
-
-const CASE: usize = 13;
-
-const NUMBER: usize = 20;
-
-const SAME: usize = 44;
-
-const NOTICED: usize = 45;
+// Calls of each letter; lines that make none; lines that are neither; answers of each case; of each refusal's number; lines as the Rust's;
+// with a change that was noticed.
+#[derive(Drop)]
+pub(crate) struct Counts {
+    calls: [u64; 11],
+    setting: u64,
+    other: u64,
+    cases: [u64; 7],
+    refusals: [u64; 24],
+    same: u64,
+    noticed: u64,
+}
 
 // ---- counting
 
-fn add(counts: &mut [u64; COUNTS], at: usize)
-    requires { at < 46 }
-{
-    counts[at] = std::num::wrapping_add_u64(counts[at], 1);
+fn add(count: &mut u64) {
+    *count = count.wrapping_add(1);
 }
 
-fn index(letter: u8) -> usize
-    ensures { result ≤ 12 }
-{
-    match letter {
-        b'S' => 0,
-        b'U' => 1,
-        b'M' => 2,
-        b'P' => 3,
-        b'O' => 4,
-        b'T' => 5,
-        b'E' => 6,
-        b'G' => 7,
-        b'C' => 8,
-        b'D' => 9,
-        b'Q' => 10,
-        b' ' => OTHER,
-        _ => SETTING,
+// The place of a call among its counts; None for a line that makes none.
+fn place_of(line: Line) -> Option<usize> {
+    match line {
+        Line::SetUp => Some(0),
+        Line::Update => Some(1),
+        Line::SetMaxClients => Some(2),
+        Line::Packet => Some(3),
+        Line::AnswerOpen => Some(4),
+        Line::AnswerToken => Some(5),
+        Line::AnswerSeal => Some(6),
+        Line::Payload => Some(7),
+        Line::UpdateClient => Some(8),
+        Line::Disconnect => Some(9),
+        Line::Query => Some(10),
+        Line::Words | Line::Entry | Line::AllEntries | Line::Lend => None,
     }
 }
 
-pub(crate) fn count_line(counts: &mut [u64; COUNTS], letter: u8) {
-    add(counts, index(letter));
-}
-
-fn count_case(counts: &mut [u64; COUNTS], case: u64) {
-    if case < 7 {
-        add(counts, CASE + case as usize);
-    }
-}
-
-fn count_number(counts: &mut [u64; COUNTS], number: u64) {
-    if number == 0 {
-        return;
-    }
-    if number <= 24 {
-        add(counts, NUMBER - 1 + number as usize);
-    }
-}
-
-// What was said begins with the case and the number; a query has neither, and set-up a number alone.
-pub(crate) fn count_answer(counts: &mut [u64; COUNTS], letter: u8, said: &[u8]) {
-    match letter {
-        b'Q' => {}
-        b'S' => count_number(counts, text::number(said, 1)),
-        _ => {
-            count_case(counts, text::number(said, 1));
-            count_number(counts, text::number(said, 2));
-        }
-    }
-}
-
-pub(crate) fn count_same(counts: &mut [u64; COUNTS]) {
-    add(counts, SAME);
-}
-
-pub(crate) fn count_noticed(counts: &mut [u64; COUNTS]) {
-    add(counts, NOTICED);
-}
-
-// All lines: of each letter, and of none.
-pub(crate) fn lines(counts: &[u64; COUNTS]) -> u64 {
+fn sum(counts: &[u64]) -> u64 {
     let mut sum: u64 = 0;
-    for i in 0..13usize {
-        sum = std::num::wrapping_add_u64(sum, counts[i]);
+    for count in counts {
+        sum = sum.wrapping_add(*count);
     }
     sum
 }
 
-// Whether the lines that differ so far are no more than five.
-pub(crate) fn are_few(counts: &[u64; COUNTS]) -> bool {
-    std::num::wrapping_sub_u64(lines(counts), counts[SAME]) <= 5
+// The count of this place, if there is one, is one more.
+fn add_at(counts: &mut [u64], at: usize) {
+    if let Some(count) = counts.get_mut(at) {
+        add(count);
+    }
+}
+
+impl Counts {
+    pub(crate) fn new() -> Counts {
+        Counts {
+            calls: [0; 11],
+            setting: 0,
+            other: 0,
+            cases: [0; 7],
+            refusals: [0; 24],
+            same: 0,
+            noticed: 0,
+        }
+    }
+
+    pub(crate) fn count_line(&mut self, line: Line) {
+        match place_of(line) {
+            Some(at) => add_at(&mut self.calls, at),
+            None => add(&mut self.setting),
+        }
+    }
+
+    pub(crate) fn count_other(&mut self) {
+        add(&mut self.other);
+    }
+
+    fn count_number(&mut self, number: u64) {
+        if number != 0 {
+            add_at(&mut self.refusals, (number - 1) as usize);
+        }
+    }
+
+    // What was said begins with the case and the number; a query has neither, and set-up a number alone.
+    pub(crate) fn count_answer(&mut self, line: Line, said: &[u8]) {
+        match line {
+            Line::Query => {}
+            Line::SetUp => self.count_number(text::number(said, 1)),
+            _ => {
+                add_at(&mut self.cases, text::number(said, 1) as usize);
+                self.count_number(text::number(said, 2));
+            }
+        }
+    }
+
+    pub(crate) fn count_same(&mut self) {
+        add(&mut self.same);
+    }
+
+    pub(crate) fn count_noticed(&mut self) {
+        add(&mut self.noticed);
+    }
+
+    // All lines: of each letter, and of none.
+    pub(crate) fn lines(&self) -> u64 {
+        sum(&self.calls)
+            .wrapping_add(self.setting)
+            .wrapping_add(self.other)
+    }
+
+    // Whether the lines that differ so far are no more than five.
+    pub(crate) fn are_few(&self) -> bool {
+        self.lines().wrapping_sub(self.same) <= 5
+    }
+
+    fn are_all_same(&self) -> bool {
+        let total = self.lines();
+        total != 0 && self.same == total && self.noticed.wrapping_add(self.setting) == total
+    }
 }
 
 // ---- printing
 
-pub(crate) fn say(rt: HostRuntime, s: &[u8]) -> io::Result<()> {
-    rt.write_all(s)
-}
-
-pub(crate) fn say_number(rt: HostRuntime, n: u64) -> io::Result<()> {
-    print!(rt; "{n}")
-}
-
-fn cell(rt: HostRuntime, names: &[u8], i: usize, count: u64) -> io::Result<()> {
-    say(rt, b" ")?;
-    say(rt, text::token(names, i))?;
-    say(rt, b"=")?;
-    say_number(rt, count)
-}
-
-// A name and a count for each of n.
-fn row(
-    rt: HostRuntime,
-    title: &[u8],
-    names: &[u8],
-    counts: &[u64; COUNTS],
-    from: usize,
-    n: usize,
-) -> io::Result<()>
-    requires { from + n ≤ 46 }
-{
-    say(rt, title)?;
-    for i in 0..n {
-        cell(rt, names, i, counts[from + i])?;
+// A name and a count for each.
+fn row(rt: HostRuntime, title: &[u8], names: &[&[u8]], counts: &[u64]) -> io::Result<()> {
+    rt.write_all(title)?;
+    for (name, count) in names.iter().zip(counts) {
+        rt.write_all(b" ")?;
+        rt.write_all(name)?;
+        print!(rt; "={count}")?;
     }
-    say(rt, b"\n")
+    rt.write_all(b"\n")
 }
 
-fn is_all(counts: &[u64; COUNTS], total: u64) -> bool {
-    if total == 0 {
-        return false;
-    }
-    if counts[SAME] != total {
-        return false;
-    }
-    std::num::wrapping_add_u64(counts[NOTICED], counts[SETTING]) == total
-}
-
-fn verdict(rt: HostRuntime, holds: bool) -> io::Result<()> {
-    if holds {
-        say(rt, b"all as the Rust's\n")
+pub(crate) fn table(rt: HostRuntime, counts: &Counts) -> io::Result<()> {
+    row(rt, b"calls:", &LETTERS, &counts.calls)?;
+    row(rt, b"answers:", &CASES, &counts.cases)?;
+    row(rt, b"refusals:", &NUMBERS, &counts.refusals)?;
+    println!(rt;
+        "{} lines, {} as the Rust's, {} noticed with a character changed, {} that alter or lend, {} of no call",
+        counts.lines(),
+        counts.same,
+        counts.noticed,
+        counts.setting,
+        counts.other
+    )?;
+    if counts.are_all_same() {
+        println!(rt; "all as the Rust's")
     } else {
-        say(rt, b"NOT all as the Rust's\n")
+        println!(rt; "NOT all as the Rust's")
     }
-}
-
-// How many lines there were, and what they came to.
-fn sums(rt: HostRuntime, counts: &[u64; COUNTS], total: u64) -> io::Result<()> {
-    say_number(rt, total)?;
-    say(rt, b" lines, ")?;
-    say_number(rt, counts[SAME])?;
-    say(rt, b" as the Rust's, ")?;
-    say_number(rt, counts[NOTICED])?;
-    say(rt, b" noticed with a character changed, ")?;
-    say_number(rt, counts[SETTING])?;
-    say(rt, b" that alter or lend, ")?;
-    say_number(rt, counts[OTHER])?;
-    say(rt, b" of no call\n")
-}
-
-pub(crate) fn table(rt: HostRuntime, counts: &[u64; COUNTS]) -> io::Result<()> {
-    row(rt, b"calls:", &LETTERS, counts, 0, 11)?;
-    row(rt, b"answers:", &CASES, counts, CASE, 7)?;
-    row(rt, b"refusals:", &NUMBERS, counts, NUMBER, 24)?;
-    let total = lines(counts);
-    sums(rt, counts, total)?;
-    verdict(rt, is_all(counts, total))
 }

@@ -34,8 +34,8 @@ use Rattle.netcode.proofs.asking.netcode_clients_slot.Reads as netcode-clients-s
 use Rattle.netcode.proofs.asking.netcode_addresses.Reads as netcode-addresses
 use Rattle.netcode.proofs.stages.stage_in.Reads as stage-in
 use Rattle.netcode.proofs.stages.stage_words.Reads as stage-words
-use Rattle.netcode.proofs.stages.bit_of.Reads as bit-of
 use Rattle.netcode.proofs.record.read.Reads as read
+use Rattle.netcode.proofs.record.places_only.Reads as places-only
 use Rattle.netcode.proofs.record.tables_refusal.Reads as tables-refusal
 use Rattle.netcode.proofs.record.lay.Reads as lay
 use Rattle.netcode.proofs.record.lay_whole.Reads as lay-whole
@@ -151,13 +151,13 @@ pub stage_words_determined : (κs : _) (a : _) (x y : _) (e f : _) → stage-wor
     → x ≡ y
 stage_words_determined κs a x y e f p q = coincide p q
 
-pub bit_of_determined : (κs : _) (a : _) (x y : _) (e f : _) → bit-of.Post κs a x e → bit-of.Post κs a y f
-    → x ≡ y
-bit_of_determined κs a x y e f p q = coincide p q
-
 pub read_determined : (κs : _) (a : _) (x y : _) (e f : _) → read.Post κs a x e → read.Post κs a y f
     → x ≡ y
 read_determined κs a x y e f p q = coincide p q
+
+pub places_only_determined : (κs : _) (a : _) (x y : _) (e f : _) → places-only.Post κs a x e → places-only.Post κs a y f
+    → x ≡ y
+places_only_determined κs a x y e f p q = coincide p q
 
 pub tables_refusal_determined : (κs : _) (a : _) (x y : _) (e f : _) → tables-refusal.Post κs a x e → tables-refusal.Post κs a y f
     → x ≡ y
@@ -196,7 +196,7 @@ pub lay_quiet_determined : (κs : _) (a : _) (x y : _) (e f : _) → lay-quiet.P
 lay_quiet_determined κs a x y e f p q = coincide p q
 
 pub ask_open_determined : (κs : _) (a : _) (x y : _) (e f : _) → ask-open.Post κs a x e → ask-open.Post κs a y f
-    → desk e.0.now e.1.1.1.1.1.1.1.1.0.now e.1.1.1.1.1.1.1.1.1.0.now ≡ desk f.0.now f.1.1.1.1.1.1.1.1.0.now f.1.1.1.1.1.1.1.1.1.0.now
+    → desk e.0.now e.1.1.1.1.1.0.now e.1.1.1.1.1.1.0.now ≡ desk f.0.now f.1.1.1.1.1.0.now f.1.1.1.1.1.1.0.now
 ask_open_determined κs a x y e f p q = coincide p q
 
 pub hear_determined : (κs : _) (a : _) (x y : _) (e f : _) → hear.Post κs a x e → hear.Post κs a y f

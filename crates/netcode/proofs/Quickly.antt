@@ -1,5 +1,7 @@
 -- The short way comes to what the general way does: each test that it makes is one of the call's own, and what it lays is what the record would be
 -- laid as, since nothing but the open ask changes.
+use Rattle.std.specs.Prelude.{Option, Some, None, Result, Ok, Err}
+use Rattle.std.specs.Result.{result_ok}
 use mathlib.Core.Path.{◌≡◌, refl, sym, ap, ap₂, subst, ◌∙◌}
 use mathlib.Core.Bool.{Bool, true, false, not}
 use Prim.Native.Nat.{ℕ, ◌+◌, ◌-◌, ◌≤◌, ◌<◌}
@@ -8,8 +10,6 @@ use mathlib.Core.List.{List, [], ◌∷◌}
 use lib.ListN.{length, get_or, set}
 use lib.Dec.{eqb, ltb}
 use borrow.Author.Tests.{eq-eqb, ne_eqb, le-ltb, lt-leb, ltb-false, not-true}
-use Rattle.serialize.specs.declared.Found.{Found}
-use Rattle.serialize.specs.declared.Found.TheVariants.{At}
 use Rattle.serialize.specs.Choice.{pick}
 use Rattle.serialize.specs.Runs.{part}
 use Rattle.replay_protection.specs.Replay.{refusal, arrive}
@@ -27,11 +27,8 @@ use Rattle.times.specs.Times.{time}
 use Rattle.places.specs.Layout.{Shaped, id_of, receive_key_at, received_at, confirmed_at, window_place}
 use Rattle.places.specs.Finds.{find_address}
 use Rattle.records.specs.Records.{bytes_at, put_time, bit}
-use Rattle.decode.specs.declared.Kind.{Kind}
-use Rattle.decode.specs.declared.Kind.TheVariants as kindly
 use Rattle.decode.specs.declared.Start.{Start}
-use Rattle.decode.specs.declared.Start.TheVariants as starting
-use Rattle.decode.specs.Decodes.{type_at, start_at}
+use Rattle.decode.specs.Decodes.{type_at, start_as, start_at}
 use Rattle.server.specs.declared.Stage.TheVariants.{Packet}
 use Rattle.server.specs.declared.Answer.TheVariants as answer
 use Rattle.server.specs.declared.Ask as host
@@ -48,12 +45,11 @@ use Rattle.arrivals.specs.Arrivals.{lent_refusal, arrival_refusal, window_refusa
 use Rattle.opens.specs.Opens.{packet_opened, opened as opensAs, open_answer_refusal, opens}
 use Rattle.opens.specs.Heard.{accepted, slot_says, slot_body, slot_heard}
 use Rattle.bodies.specs.Bodies.{read_body}
-use Rattle.netcode.specs.declared.Seen.{Seen}
-use Rattle.netcode.specs.declared.Seen.TheVariants.{Sealed, Other}
+use Rattle.netcode.specs.declared.Sealed.{Sealed}
 use Rattle.netcode.specs.Laid.{kind_in, stage_in, set_up_in, record_in, stage_words, record_words}
 use Rattle.netcode.specs.Told.{Desk, desk, answer_words, ask_bytes}
 use Rattle.netcode.specs.Calls.{turn_on, yes?, moved, moved_as, wrote, wrote_as}
-use Rattle.netcode.specs.Quick.{step_words, no_step, Tested, Sees, Opens, Hears, Taken, taken, payload_taken, Heard, heard, payload_heard}
+use Rattle.netcode.specs.Quick.{step_words, no_step, sealed_as, Tested, Sees, Opens, Hears, Taken, taken, payload_taken, Heard, heard, payload_heard}
 
 -- ---- the record's words, where only the open ask changes
 
@@ -120,14 +116,19 @@ never h = absurd (let z : ◌≡◌ {A = ℕ} 0 1 = ap (λ (b : Bool). count b) 
     count true = 1
     count false = 0
 
+-- what `ok` leaves of a result is the result's own
+pub had : {T E : Type 0} (r : Result T E) (o : Option T) → o ≡ result_ok r → (x : T) → o ≡ Some x → r ≡ Ok x
+had {T} (Ok y) o is-o x there = let e : ◌≡◌ {A = Option T} (Some y) (Some x) = sym is-o ∙ there in let f : y ≡ x = cc in ap Ok f
+had {T} (Err y) o is-o x there = absurd (let e : ◌≡◌ {A = Option T} None (Some x) = sym is-o ∙ there in cc)
+
 module _ (slots : List ℕ) (n i : ℕ) (k : PacketType) (d : List ℕ) where
-  pub other_tested : Tested slots n i k d Other
+  pub other_tested : Tested slots n i k d None
   unfolding Tested
   other_tested = tt
 
-  pub sealed_tested : (sequence start : ℕ) (r : Start) → r ≡ start_at d → r ≡ starting.At sequence start → (b : Bool) → b ≡ windowed k → b ≡ true
+  pub sealed_tested : (sequence start : ℕ) (r : Result Start ℕ) → r ≡ start_at d → r ≡ Ok (start_as sequence start) → (b : Bool) → b ≡ windowed k → b ≡ true
       → (q : ℕ) → q ≡ refusal width (window_at width slots (window_place n i)) sequence → q ≡ 0 → (p : Bool) → p ≡ ltb (length d) (start + 16) → p ≡ false
-      → Tested slots n i k d (Sealed i k sequence start)
+      → Tested slots n i k d (Some (sealed_as i k sequence start))
   unfolding Tested window_refusal pick
   sealed_tested sequence start r is-r at b is_b so q is-q zero p is-p within =
       let win : windowed k ≡ true = sym is_b ∙ so in
@@ -146,7 +147,7 @@ module _ (w slots pending : List ℕ) (addr : Address) (out : ℕ) (d : List ℕ
   abbrev here : State
   here = state (record_in w) slots pending
 
-  pub other_seen : Sees here addr out d Other
+  pub other_seen : Sees here addr out d None
   unfolding Sees
   other_seen = tt
 
@@ -160,26 +161,26 @@ module _ (w slots pending : List ℕ) (addr : Address) (out : ℕ) (d : List ℕ
     unfolding record_in set_up_in
     seen_shape = (arrival_shaped (record_in w) slots pending addr out free).0
 
-    pub seen_place : (r : Found) → r ≡ find_address slots (get_or w 0 0) addr → (i : ℕ) → r ≡ At i → i < get_or w 0 0
+    pub seen_place : (r : Option ℕ) → r ≡ find_address slots (get_or w 0 0) addr → (i : ℕ) → r ≡ Some i → i < get_or w 0 0
     seen_place r is i at = ((address_found slots (get_or w 0 0) seen_shape addr i).0 (sym is ∙ at)).below
 
-    seen_arrives : (k : PacketType) → type_at d ≡ kindly.Of k → (i : ℕ) → find_address slots (get_or w 0 0) addr ≡ At i → windowed k ≡ true
-        → (sequence start : ℕ) → start_at d ≡ starting.At sequence start → window_refusal slots (get_or w 0 0) i k sequence ≡ 0 → start + 16 ≤ length d
+    seen_arrives : (k : PacketType) → type_at d ≡ Ok k → (i : ℕ) → find_address slots (get_or w 0 0) addr ≡ Some i → windowed k ≡ true
+        → (sequence start : ℕ) → start_at d ≡ Ok (start_as sequence start) → window_refusal slots (get_or w 0 0) i k sequence ≡ 0 → start + 16 ≤ length d
         → arrives here addr out d ≡ leaves here (open_asked (record_in w) slots (get_or w 0 0) true i k sequence start out d)
     unfolding arrives by_kind kind_arrives sealed_from sender by_start sealed_at record_in set_up_in pick
     seen_arrives k typed i found win sequence start at window long =
         simp (free, typed, request_not_windowed k win, found, at, window, le-ltb (length d) (start + 16) long)
 
-    pub sees : (k : PacketType) (t : Kind) → t ≡ type_at d → t ≡ kindly.Of k → (f : Found) → f ≡ find_address slots (get_or w 0 0) addr → (i : ℕ) → f ≡ At i → (r : Seen)
+    pub sees : (k : PacketType) (t : Result PacketType ℕ) → t ≡ type_at d → t ≡ Ok k → (f : Option ℕ) → f ≡ find_address slots (get_or w 0 0) addr → (i : ℕ) → f ≡ Some i → (r : Option Sealed)
         → Tested slots (get_or w 0 0) i k d r → Sees here addr out d r
     unfolding Sees Tested record_in set_up_in
-    sees k t is-t typed f is_f i at Other tested = tt
-    sees k t is-t typed f is_f i at (Sealed place k' sequence start) tested =
-        let one : place ≡ i = tested.0 in
-        let two : k' ≡ k = tested.1 in
-        let e = seen_arrives k (sym is-t ∙ typed) i (sym is_f ∙ at) tested.2 sequence start tested.3 tested.4 tested.5 in (
+    sees k t is-t typed f is_f i at None tested = tt
+    sees k t is-t typed f is_f i at (Some p) tested =
+        let one : p.place ≡ i = tested.0 in
+        let two : p.kind ≡ k = tested.1 in
+        let e = seen_arrives k (sym is-t ∙ typed) i (sym is_f ∙ at) tested.2 p.sequence p.start tested.3 tested.4 tested.5 in (
           e
-              ∙ ap₂ (λ (x : ℕ) (y : PacketType). leaves here (open_asked (record_in w) slots (get_or w 0 0) true x y sequence start out d)) (sym one) (sym two),
+              ∙ ap₂ (λ (x : ℕ) (y : PacketType). leaves here (open_asked (record_in w) slots (get_or w 0 0) true x y p.sequence p.start out d)) (sym one) (sym two),
           seen_shape,
           omega (arith, one, seen_place f is_f i at),
           typed_long d k (sym is-t ∙ typed),
@@ -218,21 +219,21 @@ module _ (w : List ℕ) (granted : ℕ) (slots pending : List ℕ) (datagram out
 
 -- ---- either way comes to the same
 
-seen_is : (t : State) (addr : Address) (out : ℕ) (datagram : List ℕ) (place : ℕ) (k : PacketType) (sequence start : ℕ) → Sees t addr out datagram (Sealed place k sequence start)
+seen_is : (t : State) (addr : Address) (out : ℕ) (datagram : List ℕ) (place : ℕ) (k : PacketType) (sequence start : ℕ) → Sees t addr out datagram (Some (sealed_as place k sequence start))
     → arrives t addr out datagram ≡ leaves t (open_asked t.server t.slots t.server.set.slots true place k sequence start out datagram)
 unfolding Sees
 seen_is t addr out datagram place k sequence start s = s.0
 
-pub seen_fits : (w slots pending : List ℕ) (addr : Address) (out : ℕ) (datagram : List ℕ) (r : Seen) (place : ℕ) (k : PacketType) (sequence start : ℕ)
-    → Sees (state (record_in w) slots pending) addr out datagram r → r ≡ Sealed place k sequence start
+pub seen_fits : (w slots pending : List ℕ) (addr : Address) (out : ℕ) (datagram : List ℕ) (r : Option Sealed) (place : ℕ) (k : PacketType) (sequence start : ℕ)
+    → Sees (state (record_in w) slots pending) addr out datagram r → r ≡ Some (sealed_as place k sequence start)
     → Shaped slots (get_or w 0 0) × (place < get_or w 0 0) × (18 ≤ length datagram)
 unfolding Sees record_in set_up_in
 seen_fits w slots pending addr out datagram r place k sequence start sees is =
-    let s : Sees (state (record_in w) slots pending) addr out datagram (Sealed place k sequence start) = subst (Sees (state (record_in w) slots pending) addr out datagram) is sees in
+    let s : Sees (state (record_in w) slots pending) addr out datagram (Some (sealed_as place k sequence start)) = subst (Sees (state (record_in w) slots pending) addr out datagram) is sees in
     (s.1, s.2, s.3)
 
-pub seen_told : (d e : Desk) (slots pending : List ℕ) (addr : Address) (out : ℕ) (datagram : List ℕ) (r : Seen) (place : ℕ) (k : PacketType) (sequence start : ℕ)
-    → Sees (state (record_in d.words) slots pending) addr out datagram r → r ≡ Sealed place k sequence start
+pub seen_told : (d e : Desk) (slots pending : List ℕ) (addr : Address) (out : ℕ) (datagram : List ℕ) (r : Option Sealed) (place : ℕ) (k : PacketType) (sequence start : ℕ)
+    → Sees (state (record_in d.words) slots pending) addr out datagram r → r ≡ Some (sealed_as place k sequence start)
     → e ≡ turn_on d (open_asked (record_in d.words) slots (get_or d.words 0 0) true place k sequence start out datagram)
     → moved e slots pending ≡ moved_as d (arrives (state (record_in d.words) slots pending) addr out datagram)
 unfolding record_in set_up_in

@@ -1,4 +1,5 @@
 -- The short ways of a sent payload and of a client that nothing is due for: each comes to what the general way comes to.
+use Rattle.std.specs.Prelude.{Option, Some, None}
 use mathlib.Core.Path.{◌≡◌, refl, sym, ap, ap₂, subst, ◌∙◌}
 use mathlib.Core.Bool.{Bool, false, not}
 use Prim.Native.Nat.{ℕ, ◌+◌, ◌-◌, ◌%◌, ◌^◌, ◌≤◌, ◌<◌}
@@ -6,8 +7,6 @@ use native.Mathlib.Omega.{arith}
 use mathlib.Core.List.{List, [], ◌∷◌}
 use lib.ListN.{length, get_or, set}
 use borrow.Author.Tests.{eq-eqb, ne_eqb, lt-leb, le-ltb}
-use Rattle.serialize.specs.declared.Found.{Found}
-use Rattle.serialize.specs.declared.Found.TheVariants.{At, Nothing}
 use Rattle.serialize.specs.Choice.{pick}
 use Rattle.prefix.specs.Head.{fewest}
 use Rattle.bodies.specs.declared.PacketType.TheVariants as kind
@@ -96,13 +95,13 @@ module _ (slots : List ℕ) (n i payload out x : ℕ) (read : x ≡ counter_in s
   need_read h = subst (λ (y : ℕ). need kind.Payload payload y ≤ out) (sym read) h
 
 module _ (w : List ℕ) (id payload : ℕ) (slots : List ℕ) (out : ℕ) where
-  pub nothing_sends : Sends w id payload slots out Nothing
+  pub nothing_sends : Sends w id payload slots out None
   unfolding Sends
   nothing_sends = tt
 
   pub can_send : get_or w 11 0 ≡ 0 → slots_refusal (set_up_in w) (length slots) ≡ 0 → payload ≤ 1300
-      → (f : Found) → f ≡ find_id slots (get_or w 0 0) id → (i : ℕ) → f ≡ At i → Room slots (get_or w 0 0) i payload out
-      → Sends w id payload slots out (At i)
+      → (f : Option ℕ) → f ≡ find_id slots (get_or w 0 0) id → (i : ℕ) → f ≡ Some i → Room slots (get_or w 0 0) i payload out
+      → Sends w id payload slots out (Some i)
   unfolding Sends
   can_send none fits small f searched i e room =
       let shape = fitting_shaped w slots fits in
@@ -116,9 +115,9 @@ module _ (w : List ℕ) (id payload : ℕ) (slots : List ℕ) (out : ℕ) where
         room = room;
       }
 
-  pub sends_at : (r : Found) → Sends w id payload slots out r → (i : ℕ) → r ≡ At i → Sendable w id payload slots out i
+  pub sends_at : (r : Option ℕ) → Sends w id payload slots out r → (i : ℕ) → r ≡ Some i → Sendable w id payload slots out i
   unfolding Sends
-  sends_at r h i e = subst (λ (x : Found). Sends w id payload slots out x) e h
+  sends_at r h i e = subst (λ (x : Option ℕ). Sends w id payload slots out x) e h
 
 module _ (w slots payload out : List ℕ) (i : ℕ) where
   abbrev counter : ℕ
@@ -249,22 +248,22 @@ module _ (slots : List ℕ) (n i : ℕ) (clock t : Time) (et : t ≡ time_at slo
   pub rests_on_time : (w ≡ 0 → ⊥) → w < 2 ^ 31 → (r : Time) → r ≡ received → (p : Bool) → p ≡ past r w clock → p ≡ false → Rests slots n i clock
   rests_on_time z h r er p ep g = rests_early (overdue_by_past timeout w ew received clock z h r er false (sym g ∙ ep))
 
-module _ (w : List ℕ) (id : ℕ) (slots : List ℕ) (none : get_or w 11 0 ≡ 0) (fits : slots_refusal (set_up_in w) (length slots) ≡ 0) (f : Found) (searched : f ≡ find_id slots (get_or w 0 0) id) where
-  resting : (i : ℕ) → f ≡ At i → Rests slots (get_or w 0 0) i (time (get_or w 7 0) (get_or w 8 0)) → (out : List ℕ)
+module _ (w : List ℕ) (id : ℕ) (slots : List ℕ) (none : get_or w 11 0 ≡ 0) (fits : slots_refusal (set_up_in w) (length slots) ≡ 0) (f : Option ℕ) (searched : f ≡ find_id slots (get_or w 0 0) id) where
+  resting : (i : ℕ) → f ≡ Some i → Rests slots (get_or w 0 0) i (time (get_or w 7 0) (get_or w 8 0)) → (out : List ℕ)
       → idly (record_in w) slots out ≡ client_updated (record_in w) slots id out
   unfolding record_in set_up_in pick
   resting i e h out =
       attend_found (record_in w) slots id out 0 (sym (ready w slots none fits)) refl f searched i e (idly (record_in w) slots out) false
       (slot_rests (record_in w) id slots i out false (sym h.alive) refl false (sym h.early) refl (answered (record_in w) said.Nothing) refl)
 
-  absent : f ≡ Nothing → (out : List ℕ) → idly (record_in w) slots out ≡ client_updated (record_in w) slots id out
+  absent : f ≡ None → (out : List ℕ) → idly (record_in w) slots out ≡ client_updated (record_in w) slots id out
   unfolding record_in set_up_in pick
   absent e out = attend_missed (record_in w) slots id out 0 (sym (ready w slots none fits)) refl f searched e (answered (record_in w) said.Nothing) refl false
 
-  pub quiet_found : (i : ℕ) → f ≡ At i → Rests slots (get_or w 0 0) i (time (get_or w 7 0) (get_or w 8 0)) → Quiet w id slots
+  pub quiet_found : (i : ℕ) → f ≡ Some i → Rests slots (get_or w 0 0) i (time (get_or w 7 0) (get_or w 8 0)) → Quiet w id slots
   quiet_found i e h = record { none = none; nothing = λ out. sym (resting i e h out) }
 
-  pub quiet_missed : f ≡ Nothing → Quiet w id slots
+  pub quiet_missed : f ≡ None → Quiet w id slots
   quiet_missed e = record { none = none; nothing = λ out. sym (absent e out) }
 
 -- the step laid that was there

@@ -1,7 +1,10 @@
 -- The record in words, put together from what each step lays: each equation is carried into the place of the next.
 use mathlib.Core.Path.{◌≡◌, ap, ◌∙◌}
+use mathlib.Core.Bool.{Bool, true, false}
 use mathlib.Core.List.{List, [], ◌∷◌}
 use Prim.Native.Nat.{ℕ}
+use mir.Val.{bool_byte}
+use Rattle.serialize.specs.Choice.{pick}
 use Rattle.serialize.specs.Runs.{splice}
 use Rattle.serialize.specs.Le.{words}
 use Rattle.records.specs.Records.{bit}
@@ -21,3 +24,9 @@ whole s w a b d e secure is standing connect challenge moving =
     ∙ ap (λ (x : List ℕ). splice x 14 (words 4 s.set.connect_key))
     (standing
     ∙ ap (λ (k : ℕ). splice w 0 (s.set.slots ∷ s.set.pending ∷ s.set.entries ∷ s.set.addresses ∷ k ∷ s.set.protocol_id ∷ [])) is)))
+
+-- a yes is laid as 1, as it is in a table
+pub laid_bit : (b : Bool) (x : ℕ) → x ≡ bool_byte b → x ≡ bit b
+unfolding bit pick
+laid_bit true x e = e
+laid_bit false x e = e

@@ -49,8 +49,9 @@ pub record Started : Type 0 where
 abbrev pub started : ℕ → List ℕ → List ℕ → List ℕ → List ℕ → Started
 started number words slots pending entries = record { number = number; words = words; slots = slots; pending = pending; entries = entries }
 
+-- 0 and the record; or the refusal and a record of no places
 abbrev pub started_as : List ℕ → begin.Outcome → Started
-started_as w o = started o.result.refusal (whole_words w o.result.server) o.slots o.pending o.entries
+started_as w o = started (begin.refusal_of o.result) (whole_words w (begin.record_of o.result)) o.slots o.pending o.entries
 
 -- ---- a call that never asks
 

@@ -1,8 +1,8 @@
 -- The server's record in 34 words, for a host in another language. Words 0 to 5 and 14 to 21 are what set-up fixed; words 6 to 13 and 22 to 33
 -- are what calls change. Any words are a record.
-use Rattle.std.specs.Prelude.{ℕ, Bool, not, List, [], ◌∷◌, get_or, eqb}
+use Rattle.std.specs.Prelude.{ℕ, Bool, false, not, List, [], ◌∷◌, get_or, eqb}
 use Rattle.serialize.specs.Choice.{pick}
-use Rattle.serialize.specs.Runs.{part, splice}
+use Rattle.serialize.specs.Runs.{part, splice, zeros}
 use Rattle.serialize.specs.Le.{words}
 use Rattle.times.specs.Times.{time}
 use Rattle.addresses.specs.declared.Address.{Address}
@@ -95,6 +95,19 @@ set_up_in w = record {
   pending = get_or w 1 0;
   entries = get_or w 2 0;
   addresses = get_or w 3 0;
+}
+
+-- so many slots and pending places, and nothing else that set-up fixed
+abbrev pub places_only : ℕ → ℕ → SetUp
+places_only slots pending = record {
+  protocol_id = 0;
+  connect_key = zeros 32;
+  challenge_key = zeros 32;
+  secure = false;
+  slots = slots;
+  pending = pending;
+  entries = 0;
+  addresses = 0;
 }
 
 unfoldable pub record_in : List ℕ → NetcodeServer

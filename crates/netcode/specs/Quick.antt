@@ -1,12 +1,11 @@
 -- What the short way of a payload relies on. No reader needs to believe these: each call promises the same whichever way it goes.
-use Rattle.std.specs.Prelude.{◌≡◌, true, ℕ, ◌+◌, ◌-◌, ◌≤◌, ◌<◌, List, [], ◌∷◌, length, get_or}
+use Rattle.std.specs.Prelude.{◌≡◌, true, ℕ, ◌+◌, ◌-◌, ◌≤◌, ◌<◌, List, [], ◌∷◌, length, get_or, Option, Some, None, Ok}
 use Rattle.serialize.specs.Runs.{part, splice}
 use Rattle.bodies.specs.declared.PacketType.{PacketType}
 use Rattle.bodies.specs.declared.PacketType.TheVariants as kind
 use Rattle.bodies.specs.Kinds.{windowed}
 use Rattle.addresses.specs.declared.Address.{Address}
-use Rattle.decode.specs.declared.Start.TheVariants as starting
-use Rattle.decode.specs.Decodes.{start_at}
+use Rattle.decode.specs.Decodes.{start_as, start_at}
 use Rattle.places.specs.Layout.{Shaped, id_of}
 use Rattle.server.specs.declared.Stage.TheVariants.{Packet}
 use Rattle.server.specs.declared.Answer.TheVariants.{Payload}
@@ -16,8 +15,7 @@ use Rattle.turns.specs.Outcomes.{State, state, leaves}
 use Rattle.arrivals.specs.Arrivals.{window_refusal, open_asked, arrives}
 use Rattle.opens.specs.Opens.{open_answer_refusal}
 use Rattle.opens.specs.Heard.{accepted, touched, confirmed}
-use Rattle.netcode.specs.declared.Seen.{Seen}
-use Rattle.netcode.specs.declared.Seen.TheVariants.{Sealed, Other}
+use Rattle.netcode.specs.declared.Sealed.{Sealed}
 use Rattle.netcode.specs.Laid.{stage_in, record_in}
 use Rattle.netcode.specs.Told.{Desk, told_on}
 use Rattle.netcode.specs.Calls.{yes?}
@@ -35,18 +33,21 @@ no_step = 0 ∷ 0 ∷ 0 ∷ 0 ∷ 0 ∷ 0 ∷ 0 ∷ 0 ∷ 0 ∷ 0 ∷ 0 ∷ 0 �
 
 -- ---- a sealed packet of a slot
 
+abbrev pub sealed_as : ℕ → PacketType → ℕ → ℕ → Sealed
+sealed_as place kind sequence start = record { place = place; kind = kind; sequence = sequence; start = start }
+
 -- what slot i's packet has passed
-unfoldable pub Tested : List ℕ → ℕ → ℕ → PacketType → List ℕ → Seen → Type 0
-Tested slots n i kind d Other = Unit {0}
-Tested slots n i kind d (Sealed place k sequence start) =
-    (place ≡ i) × (k ≡ kind) × (windowed kind ≡ true) × (start_at d ≡ starting.At sequence start) × (window_refusal slots n i kind sequence ≡ 0) × (start + 16 ≤ length d)
+unfoldable pub Tested : List ℕ → ℕ → ℕ → PacketType → List ℕ → Option Sealed → Type 0
+Tested slots n i kind d None = Unit {0}
+Tested slots n i kind d (Some p) =
+    (p.place ≡ i) × (p.kind ≡ kind) × (windowed kind ≡ true) × (start_at d ≡ Ok (start_as p.sequence p.start)) × (window_refusal slots n i kind p.sequence ≡ 0) × (p.start + 16 ≤ length d)
 
 -- what is seen is to be opened: so the whole call says, and the slot is there
-unfoldable pub Sees : State → Address → ℕ → List ℕ → Seen → Type 0
-Sees t addr out d Other = Unit {0}
-Sees t addr out d (Sealed place kind sequence start) =
-    (arrives t addr out d ≡ leaves t (open_asked t.server t.slots t.server.set.slots true place kind sequence start out d))
-    × Shaped t.slots t.server.set.slots × (place < t.server.set.slots) × (18 ≤ length d)
+unfoldable pub Sees : State → Address → ℕ → List ℕ → Option Sealed → Type 0
+Sees t addr out d None = Unit {0}
+Sees t addr out d (Some p) =
+    (arrives t addr out d ≡ leaves t (open_asked t.server t.slots t.server.set.slots true p.place p.kind p.sequence p.start out d))
+    × Shaped t.slots t.server.set.slots × (p.place < t.server.set.slots) × (18 ≤ length d)
 
 -- ---- a payload of a slot that the host has opened
 

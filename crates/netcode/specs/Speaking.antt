@@ -1,8 +1,6 @@
 -- What the short way of a sent payload relies on, and that of a client that nothing is due for. No reader needs to believe these: each call
 -- promises the same whichever way it goes.
-use Rattle.std.specs.Prelude.{◌≡◌, true, false, ℕ, ◌+◌, ◌-◌, ◌%◌, ◌^◌, ◌≤◌, ◌<◌, List, length, get_or}
-use Rattle.serialize.specs.declared.Found.{Found}
-use Rattle.serialize.specs.declared.Found.TheVariants.{At, Nothing}
+use Rattle.std.specs.Prelude.{◌≡◌, true, false, ℕ, ◌+◌, ◌-◌, ◌%◌, ◌^◌, ◌≤◌, ◌<◌, List, length, get_or, Option, Some, None}
 use Rattle.bodies.specs.declared.PacketType.TheVariants as kind
 use Rattle.bodies.specs.declared.Packet.TheVariants.{Payload}
 use Rattle.encode.specs.Encodes.{need}
@@ -40,14 +38,14 @@ pub record Sendable (w : List ℕ) (id payload : ℕ) (slots : List ℕ) (out i 
   pub none : get_or w 11 0 ≡ 0
   pub fits : slots_refusal (set_up_in w) (length slots) ≡ 0
   pub small : payload ≤ 1300
-  pub found : find_id slots (get_or w 0 0) id ≡ At i
+  pub found : find_id slots (get_or w 0 0) id ≡ Some i
   pub shape : Shaped slots (get_or w 0 0)
   pub place : i < get_or w 0 0
   pub room : Room slots (get_or w 0 0) i payload out
 
-unfoldable pub Sends : List ℕ → ℕ → ℕ → List ℕ → ℕ → Found → Type 0
-Sends w id payload slots out Nothing = Unit {0}
-Sends w id payload slots out (At i) = Sendable w id payload slots out i
+unfoldable pub Sends : List ℕ → ℕ → ℕ → List ℕ → ℕ → Option ℕ → Type 0
+Sends w id payload slots out None = Unit {0}
+Sends w id payload slots out (Some i) = Sendable w id payload slots out i
 
 -- the ask to seal it, and the output with it in clear
 abbrev pub payload_sent : List ℕ → List ℕ → ℕ → List ℕ → List ℕ → Spoken

@@ -7,7 +7,6 @@ ghost use Rattle.netcode.specs.Told.{desk};
 ghost use Rattle.netcode.specs.Calls.{spoke, spoke_as, attended, attended_as};
 
 use crate::{record, speaking, told};
-use serialize::Found;
 
 // By the whole record.
 fn generate_payload_packet(
@@ -43,10 +42,8 @@ pub fn netcode_generate_payload_packet(
     ensures { spoke (desk words.new answer.new ask.new) out.new ≡ spoke_as (desk words.old answer.old ask.old) (generated (record_in words.old) slots.now client_id payload.now out.old) }
 {
     match speaking::can_send(words, client_id, payload.len(), slots, out.len()) {
-        Found::At(i) => speaking::send_payload(words, slots, i, payload, out, answer, ask),
-        Found::Nothing => {
-            generate_payload_packet(words, client_id, payload, slots, out, answer, ask)
-        }
+        Some(i) => speaking::send_payload(words, slots, i, payload, out, answer, ask),
+        None => { generate_payload_packet(words, client_id, payload, slots, out, answer, ask) }
     }
 }
 

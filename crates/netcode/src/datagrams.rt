@@ -10,7 +10,7 @@ ghost use Rattle.netcode.specs.Laid.{record_in};
 ghost use Rattle.netcode.specs.Told.{desk};
 ghost use Rattle.netcode.specs.Calls.{yes?, token_of, moved, moved_as, wrote, wrote_as, booked, booked_as};
 
-use crate::{Seen, hearing, record, speaking, told};
+use crate::{hearing, record, speaking, told};
 use addresses::Address;
 use grants::PrivateConnectToken;
 
@@ -49,15 +49,8 @@ pub fn netcode_process_packet(
     let addr = Address::new(kind, ip, port);
     let room = out.len();
     match hearing::look(words, addr, slots, pending, room, datagram) {
-        Seen::Sealed {
-            place,
-            kind: sealed,
-            sequence,
-            start,
-        } => hearing::ask_open(
-            words, slots, place, sealed, sequence, start, room, datagram, answer, ask,
-        ),
-        Seen::Other => process_any(words, addr, slots, pending, out, datagram, answer, ask),
+        Some(seen) => hearing::ask_open(words, slots, seen, room, datagram, answer, ask),
+        None => process_any(words, addr, slots, pending, out, datagram, answer, ask),
     }
 }
 

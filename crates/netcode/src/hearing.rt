@@ -9,41 +9,36 @@ ghost use Rattle.netcode.specs.Told.{desk};
 ghost use Rattle.netcode.specs.Calls.{turn_on};
 ghost use Rattle.netcode.specs.Quick.{Tested, Sees, Opens, Hears, taken, payload_taken, heard, payload_heard};
 
-use crate::{Seen, record, steps};
+use crate::{Sealed, record, steps};
 use addresses::Address;
 use asks::{NETCODE_MAC_BYTES, Work};
 use bodies::PacketType;
-use decode::{Kind, Start};
-use serialize::Found;
+use decode::Start;
 use server::Answer;
 use times::Time;
 use turns::NETCODE_MAX_PACKET_BYTES;
 
 // Slot i's packet by its head, the window and its length.
-fn test(slots: &[u64], n: usize, i: usize, kind: PacketType, datagram: &[u8]) -> Seen
+fn test(slots: &[u64], n: usize, i: usize, kind: PacketType, datagram: &[u8]) -> Option<Sealed>
     requires { Shaped slots.now n × (i < n) × (18 ≤ length datagram.now) }
     ensures { Tested slots.now n i kind datagram.now result }
 {
-    match decode::read_start(datagram) {
-        Start::Refused(_) => Seen::Other,
-        Start::At { sequence, start } => {
-            if !kind.apply_replay_protection() {
-                return Seen::Other;
-            }
-            if records::window_refusal(slots, n, i, sequence) != 0 {
-                return Seen::Other;
-            }
-            if asks::past(datagram.len(), start, NETCODE_MAC_BYTES) {
-                return Seen::Other;
-            }
-            Seen::Sealed {
-                place: i,
-                kind,
-                sequence,
-                start,
-            }
-        }
+    let Start { sequence, start } = decode::read_start(datagram).ok()?;
+    if !kind.apply_replay_protection() {
+        return None;
     }
+    if records::window_refusal(slots, n, i, sequence).is_err() {
+        return None;
+    }
+    if asks::past(datagram.len(), start, NETCODE_MAC_BYTES) {
+        return None;
+    }
+    Some(Sealed {
+        place: i,
+        kind,
+        sequence,
+        start,
+    })
 }
 
 // A datagram that the call's first tests let through, by its type and its sender.
@@ -54,20 +49,14 @@ fn find(
     pending: &[u64],
     out: usize,
     datagram: &[u8],
-) -> Seen
+) -> Option<Sealed>
     requires { arrival_refusal (state (record_in words.now) slots.now pending.now) addr out ≡ 0 }
     ensures { Sees (state (record_in words.now) slots.now pending.now) addr out datagram.now result }
 {
-    match decode::read_type(datagram) {
-        Kind::Refused(_) => Seen::Other,
-        Kind::Of(kind) => {
-            let n = words[0] as usize;
-            match places::find_by_address(slots, n, addr) {
-                Found::At(i) => test(slots, n, i, kind, datagram),
-                Found::Nothing => Seen::Other,
-            }
-        }
-    }
+    let kind = decode::read_type(datagram).ok()?;
+    let n = words[0] as usize;
+    let i = places::find_by_address(slots, n, addr)?;
+    test(slots, n, i, kind, datagram)
 }
 
 pub fn look(
@@ -77,20 +66,20 @@ pub fn look(
     pending: &[u64],
     out: usize,
     datagram: &[u8],
-) -> Seen
+) -> Option<Sealed>
     ensures { Sees (state (record_in words.now) slots.now pending.now) addr out datagram.now result }
 {
     if words[11] != 0 {
-        return Seen::Other;
+        return None;
     }
-    if record::tables_refusal(words, slots.len(), pending.len()) != 0 {
-        return Seen::Other;
+    if record::tables_refusal(words, slots.len(), pending.len()).is_err() {
+        return None;
     }
     if out < NETCODE_MAX_PACKET_BYTES {
-        return Seen::Other;
+        return None;
     }
-    if addr.refusal() != 0 {
-        return Seen::Other;
+    if addr.refusal().is_err() {
+        return None;
     }
     find(words, addr, slots, pending, out, datagram)
 }
@@ -99,18 +88,21 @@ pub fn look(
 pub fn ask_open(
     words: &mut [u64; 34],
     slots: &[u64],
-    place: usize,
-    kind: PacketType,
-    sequence: u64,
-    start: usize,
+    seen: Sealed,
     out: usize,
     datagram: &[u8],
     answer: &mut [u64; 14],
     ask: &mut [u8; 85],
 )
-    requires { Shaped slots.now (get_or words.old 0 0) × (place < get_or words.old 0 0) × (18 ≤ length datagram.now) }
-    ensures { desk words.new answer.new ask.new ≡ turn_on (desk words.old answer.old ask.old) (open_asked (record_in words.old) slots.now (get_or words.old 0 0) true place kind sequence start out datagram.now) }
+    requires { Shaped slots.now (get_or words.old 0 0) × (seen.place < get_or words.old 0 0) × (18 ≤ length datagram.now) }
+    ensures { desk words.new answer.new ask.new ≡ turn_on (desk words.old answer.old ask.old) (open_asked (record_in words.old) slots.now (get_or words.old 0 0) true seen.place seen.kind seen.sequence seen.start out datagram.now) }
 {
+    let Sealed {
+        place,
+        kind,
+        sequence,
+        start,
+    } = seen;
     let len = datagram.len();
     let prefix_byte = datagram[0];
     let key = records::receive_key(slots, words[0] as usize, place);
@@ -161,7 +153,7 @@ pub fn is_payload(
     ensures { result ≡ true → Hears words.now granted slots.now pending.now datagram out }
 {
     if is_payload_step(words, granted) {
-        if record::tables_refusal(words, slots.len(), pending.len()) != 0 {
+        if record::tables_refusal(words, slots.len(), pending.len()).is_err() {
             return false;
         }
         if datagram as u64 != words[12] {

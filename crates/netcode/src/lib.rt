@@ -30,14 +30,11 @@ pub use sizes::{
 };
 pub use standing::{netcode_set_max_clients, netcode_set_up, netcode_update};
 
-// What a look at a datagram shows: a packet of a slot that is to be opened, or anything else.
+// A packet of a slot that is to be opened, as a look at its datagram shows it.
 #[derive(Clone, Copy)]
-pub enum Seen {
-    Sealed {
-        place: usize,
-        kind: PacketType,
-        sequence: u64,
-        start: usize,
-    },
-    Other,
+pub struct Sealed {
+    pub place: usize,
+    pub kind: PacketType,
+    pub sequence: u64,
+    pub start: usize,
 }

@@ -2,13 +2,15 @@
 // limit. 7, 8: clock. 9, 10: global and challenge sequence. 11: which step the open ask goes on with, 0 for none. 12, 13: lengths of
 // its datagram and output. 14 to 17 and 18 to 21: connect and challenge key, eight bytes to a word. 22 to 33: the rest of that step.
 ghost use Rattle.std.specs.Prelude.{◌≡◌, ◌+◌, ◌≤◌};
+ghost use Rattle.refusal.specs.Verdicts.{verdict};
 ghost use Rattle.serialize.specs.Runs.{splice};
 ghost use Rattle.serialize.specs.Le.{words as packed};
 ghost use Rattle.records.specs.Records.{bytes_at};
 ghost use Rattle.server.specs.Ready.{both_refusal};
-ghost use Rattle.netcode.specs.Laid.{set_up_in, record_in, record_words, whole_words};
+ghost use Rattle.netcode.specs.Laid.{set_up_in, places_only, record_in, record_words, whole_words};
 
 use crate::stages;
+use refusal::Refusal;
 use server::{Counters, NetcodeServer, OpenAsk, SetUp};
 use times::Time;
 
@@ -58,20 +60,27 @@ pub fn read(words: &[u64; 34]) -> NetcodeServer
     }
 }
 
-// 23 by the lengths of the two tables: of what set-up fixed, only the numbers of places count.
-pub fn tables_refusal(words: &[u64; 34], slots: usize, pending: usize) -> u8
-    ensures { result ≡ both_refusal (set_up_in words.now) slots pending }
+// So many slots and pending places, and nothing else that set-up fixed.
+pub fn places_only(slots: usize, pending: usize) -> SetUp
+    ensures { result ≡ places_only slots pending }
 {
-    let set = SetUp {
+    SetUp {
         protocol_id: 0,
         connect_key: [0; 32],
         challenge_key: [0; 32],
         secure: false,
-        slots: words[0] as usize,
-        pending: words[1] as usize,
+        slots,
+        pending,
         entries: 0,
         addresses: 0,
-    };
+    }
+}
+
+// 23 by the lengths of the two tables: of what set-up fixed, only the numbers of places count.
+pub fn tables_refusal(words: &[u64; 34], slots: usize, pending: usize) -> Result<(), Refusal>
+    ensures { result ≡ verdict (both_refusal (set_up_in words.now) slots pending) }
+{
+    let set = places_only(words[0] as usize, words[1] as usize);
     server::both_tables_refusal(set, slots, pending)
 }
 
@@ -94,8 +103,8 @@ pub fn lay(words: &mut [u64; 34], server: NetcodeServer)
         ask.datagram as u64,
         ask.out as u64,
     ];
-    serialize::copy_words(words, 6, &moving, 0, 8);
-    serialize::copy_words(words, 22, &stage, 1, 12);
+    serialize::copy(words, 6, &moving, 0, 8);
+    serialize::copy(words, 22, &stage, 1, 12);
 }
 
 // Four words of a key.
@@ -118,10 +127,10 @@ pub fn lay_whole(words: &mut [u64; 34], server: NetcodeServer)
         set.pending as u64,
         set.entries as u64,
         set.addresses as u64,
-        stages::bit_of(set.secure),
+        u64::from(set.secure),
         set.protocol_id,
     ];
-    serialize::copy_words(words, 0, &standing, 0, 6);
+    serialize::copy(words, 0, &standing, 0, 6);
     lay_key(words, 14, &connect_key);
     lay_key(words, 18, &challenge_key);
     lay(words, server);

@@ -1,6 +1,7 @@
 // A payload to a client on its short way, and a client that nothing is due for: the ask to seal, the host's yes to it and the client's
 // turn, on the record's words alone. Whatever is anything else goes the general way.
 ghost use Rattle.std.specs.Prelude.{◌≡◌, true, ◌+◌, ◌≤◌, ◌<◌, length, get_or};
+ghost use Rattle.refusal.specs.Verdicts.{verdict};
 ghost use Rattle.bodies.specs.declared.PacketType.TheVariants as kind;
 ghost use Rattle.encode.specs.Encodes.{need};
 ghost use Rattle.places.specs.Layout.{Shaped};
@@ -13,8 +14,8 @@ ghost use Rattle.netcode.specs.Speaking.{counter_in, Room, Sends, payload_sent, 
 use crate::{record, steps};
 use asks::NETCODE_MAC_BYTES;
 use bodies::Packet;
-use serialize::Found;
-use server::{Answer, SetUp};
+use refusal::Refusal;
+use server::Answer;
 use times::Time;
 use turns::MOST;
 
@@ -25,20 +26,10 @@ const NETCODE_MAX_PAYLOAD_BYTES: usize = 1300;
 const BELOW_ZERO: u32 = 2147483648;
 
 // 23 by the slots' length: of what set-up fixed, only the number of places counts.
-fn slots_refusal(words: &[u64; 34], slots: usize) -> u8
-    ensures { result ≡ slots_refusal (set_up_in words.now) slots }
+fn slots_refusal(words: &[u64; 34], slots: usize) -> Result<(), Refusal>
+    ensures { result ≡ verdict (slots_refusal (set_up_in words.now) slots) }
 {
-    let set = SetUp {
-        protocol_id: 0,
-        connect_key: [0; 32],
-        challenge_key: [0; 32],
-        secure: false,
-        slots: words[0] as usize,
-        pending: 0,
-        entries: 0,
-        addresses: 0,
-    };
-    server::slots_refusal(set, slots)
+    server::slots_refusal(record::places_only(words[0] as usize, 0), slots)
 }
 
 // ---- a payload to be sealed
@@ -62,28 +53,24 @@ pub fn can_send(
     payload: usize,
     slots: &[u64],
     out: usize,
-) -> Found
+) -> Option<usize>
     ensures { Sends words.now client_id payload slots.now out result }
 {
     if words[11] != 0 {
-        return Found::Nothing;
+        return None;
     }
-    if slots_refusal(words, slots.len()) != 0 {
-        return Found::Nothing;
+    if slots_refusal(words, slots.len()).is_err() {
+        return None;
     }
     if payload > NETCODE_MAX_PAYLOAD_BYTES {
-        return Found::Nothing;
+        return None;
     }
     let n = words[0] as usize;
-    match places::find_by_id(slots, n, client_id) {
-        Found::At(i) => {
-            if has_room(slots, n, i, payload, out) {
-                return Found::At(i);
-            }
-            Found::Nothing
-        }
-        Found::Nothing => Found::Nothing,
+    let i = places::find_by_id(slots, n, client_id)?;
+    if has_room(slots, n, i, payload, out) {
+        return Some(i);
     }
+    None
 }
 
 // The payload in clear in the output, and the ask to seal it.
@@ -138,7 +125,7 @@ pub fn is_sent(words: &[u64; 34], granted: u8, slots: &[u64], pending: &[u64], o
     ensures { result ≡ true → Sent words.now granted slots.now pending.now out }
 {
     if is_sending_step(words, granted) {
-        if record::tables_refusal(words, slots.len(), pending.len()) != 0 {
+        if record::tables_refusal(words, slots.len(), pending.len()).is_err() {
             return false;
         }
         if out as u64 != words[13] {
@@ -215,19 +202,19 @@ pub fn is_quiet(words: &[u64; 34], client_id: u64, slots: &[u64]) -> bool
     if words[11] != 0 {
         return false;
     }
-    if slots_refusal(words, slots.len()) != 0 {
+    if slots_refusal(words, slots.len()).is_err() {
         return false;
     }
     let n = words[0] as usize;
     match places::find_by_id(slots, n, client_id) {
-        Found::At(i) => {
+        Some(i) => {
             let clock = Time {
                 secs: words[7],
                 nanos: words[8],
             };
             rests(slots, n, i, clock)
         }
-        Found::Nothing => true,
+        None => true,
     }
 }
 

@@ -1,7 +1,6 @@
 // The open ask's stage in 13 words: its number, 0 for none; place; slot; type; sequence; start or end; whether connected; three words
 // of an address; expiry or id; two words of the private data's end. Those that a stage does not have are 0.
 ghost use Rattle.std.specs.Prelude.{◌≡◌};
-ghost use Rattle.records.specs.Records.{bit};
 ghost use Rattle.netcode.specs.Laid.{kind_in, addr_in, goal_in, stage_in, addressed, placed, goal_words, packet_words, token_words, stage_words};
 
 use addresses::Address;
@@ -90,12 +89,6 @@ pub fn stage_in(words: &[u64; 34]) -> Stage
 
 // ---- in words
 
-pub fn bit_of(b: bool) -> u64
-    ensures { result ≡ bit b }
-{
-    if b { 1 } else { 0 }
-}
-
 // A seal that is for an address.
 fn addressed(number: u64, sequence: u64, end: usize, addr: Address, client_id: u64) -> [u64; 13]
     ensures { result ≡ addressed number sequence end addr client_id }
@@ -169,7 +162,7 @@ fn packet_words(
         number as u64,
         sequence,
         start as u64,
-        bit_of(connected),
+        u64::from(connected),
         0,
         0,
         0,

@@ -1,15 +1,36 @@
 // Set-up, the clock and the limit.
 ghost use Rattle.std.specs.Prelude.{◌≡◌, []};
 ghost use Rattle.times.specs.Times.{time};
-ghost use Rattle.upkeep.specs.SetUps.{set_up};
+ghost use Rattle.upkeep.specs.SetUps.{blank, set_up};
 ghost use Rattle.upkeep.specs.Clocks.{updated};
 ghost use Rattle.upkeep.specs.Limits.{limited};
 ghost use Rattle.netcode.specs.Laid.{record_in};
 ghost use Rattle.netcode.specs.Calls.{yes?, config_of, started, started_as, stepped, stepped_as, updated_as};
 
 use crate::{record, told};
+use server::{Counters, NetcodeServer, OpenAsk, Stage};
 use times::Time;
 use upkeep::ServerConfig;
+
+// A record of no places, with which every call that is lent a table of connections is 23.
+fn placeless() -> NetcodeServer
+    ensures { result ≡ blank }
+{
+    NetcodeServer {
+        set: record::places_only(0, 0),
+        max_clients: 0,
+        current_time: Time::zero(),
+        counters: Counters {
+            global_sequence: 0,
+            challenge_sequence: 0,
+        },
+        ask: OpenAsk {
+            stage: Stage::Idle,
+            datagram: 0,
+            out: 0,
+        },
+    }
+}
 
 // 0 and the record, or a refusal and a record of no places.
 pub fn netcode_set_up(
@@ -36,10 +57,16 @@ pub fn netcode_set_up(
         connect_key: *connect_key,
         challenge_key: *challenge_key,
     };
-    let begun = upkeep::set_up(config, slots, pending, entries, public_addresses);
-    let server = begun.server;
-    record::lay_whole(words, server);
-    begun.refusal
+    match upkeep::set_up(config, slots, pending, entries, public_addresses) {
+        Ok(server) => {
+            record::lay_whole(words, server);
+            0
+        }
+        Err(refusal) => {
+            record::lay_whole(words, placeless());
+            refusal.number()
+        }
+    }
 }
 
 pub fn netcode_update(

@@ -23,8 +23,8 @@ fn put_step(words: &mut [u64; 34], number: u64, datagram: usize, out: usize, res
         datagram as u64,
         out as u64,
     ];
-    serialize::copy_words(words, 6, &moving, 0, 8);
-    serialize::copy_words(words, 22, rest, 0, 12);
+    serialize::copy(words, 6, &moving, 0, 8);
+    serialize::copy(words, 22, rest, 0, 12);
 }
 
 // The host is asked.

@@ -30,8 +30,8 @@ pub fn lay_answer(answer: &mut [u64; 14], said: Answer, ask: Ask)
         ask.start as u64,
         ask.end as u64,
     ];
-    serialize::copy_words(answer, 0, &first, 0, 9);
-    serialize::copy_words(answer, 9, &rest, 0, 5);
+    serialize::copy(answer, 0, &first, 0, 9);
+    serialize::copy(answer, 9, &rest, 0, 5);
 }
 
 pub fn lay_ask(told: &mut [u8; 85], ask: Ask)
@@ -40,9 +40,9 @@ pub fn lay_ask(told: &mut [u8; 85], ask: Ask)
     let key = ask.key;
     let nonce = ask.nonce;
     let additional = ask.additional;
-    serialize::copy_bytes(told, 0, &key, 0, 32);
-    serialize::copy_bytes(told, 32, &nonce, 0, 24);
-    serialize::copy_bytes(told, 56, &additional, 0, 29);
+    serialize::copy(told, 0, &key, 0, 32);
+    serialize::copy(told, 32, &nonce, 0, 24);
+    serialize::copy(told, 56, &additional, 0, 29);
 }
 
 pub fn lay_turn(turn: Turn, words: &mut [u64; 34], answer: &mut [u64; 14], told: &mut [u8; 85])

@@ -1,4 +1,5 @@
 -- Each way out of a call is a case of its definition, by the tests and the callees' answers that led there.
+use Rattle.std.specs.Prelude.{Option, Some, None, Result, Ok, Err}
 use mathlib.Core.Path.{◌≡◌, refl, sym, ap, ap₂, ◌∙◌}
 use mathlib.Core.Bool.{Bool, true, false, ◌||◌, true≢false}
 use Prim.Native.Nat.{ℕ, ◌+◌, ◌-◌, ◌%◌, ◌^◌, ◌≤◌, ◌<◌}
@@ -7,11 +8,10 @@ use mathlib.Core.List.{List}
 use lib.ListN.{length}
 use lib.Dec.{eqb, ltb, leb}
 use borrow.Author.Tests.{eq-eqb, ne_eqb, ltb-false, leb-false}
-use Rattle.serialize.specs.declared.Found.{Found}
-use Rattle.serialize.specs.declared.Found.TheVariants as found
 use Rattle.serialize.specs.Choice.{pick}
 use Rattle.serialize.specs.Runs.{part}
 use Rattle.serialize.proofs.Lists.{length_part}
+use Rattle.refusal.specs.Verdicts.{verdict}
 use Rattle.replay_protection.specs.Replay.{arrive}
 use Rattle.replay_protection.specs.Stored.{window_at, put_window}
 use Rattle.replay_protection.specs.Ours.{width}
@@ -19,8 +19,6 @@ use Rattle.bodies.specs.declared.PacketType.{PacketType}
 use Rattle.bodies.specs.declared.PacketType.TheVariants as kind
 use Rattle.bodies.specs.declared.Packet.{Packet}
 use Rattle.bodies.specs.declared.Packet.TheVariants as packet
-use Rattle.bodies.specs.declared.Body.{Body}
-use Rattle.bodies.specs.declared.Body.TheVariants.{Whole, Short}
 use Rattle.bodies.specs.declared.challenge.ChallengeToken.{ChallengeToken}
 use Rattle.bodies.specs.Kinds.{windowed, is_request}
 use Rattle.bodies.specs.Bodies.{kind_of, wants, least, numbers, read_body}
@@ -46,9 +44,9 @@ use Rattle.server.specs.Held.{held_challenge}
 use Rattle.server.specs.Ready.{both_refusal, room_of, misplaced, misfits, answer_refusal}
 use Rattle.server.proofs.Inversions.{neither, both_shaped, answer_fits}
 use Rattle.turns.specs.declared.Turn.{Turn}
-use Rattle.turns.specs.Outcomes.{refused, closed, asking, State, state, Outcome, came, leaves, refuses, Half, half, Written, written, open_refusal}
+use Rattle.turns.specs.Outcomes.{refused, closed, asking, State, state, Outcome, came, leaves, refuses, Half, half, Written, written, open_refusal, open_verdict}
 use Rattle.turns.specs.Packets.{keep_alive, seal_ask_with, seal_ask, seal_out, Sealing, sealing, spoken, Prepared, prepared, holding, denied}
-use Rattle.turns.proofs.Ways.{keep_alive_short}
+use Rattle.turns.proofs.Ways.{keep_alive_short, open_tested}
 use Rattle.opens.specs.Heard.{accepted, touched, confirmed, slot_says, slot_body, challenge_asked, pending_says, pending_body, body_in, slot_heard, pending_heard}
 use Rattle.opens.specs.Responses.{connecting, send_key_of, counter_of, by_free, by_id, responded}
 use Rattle.opens.specs.Opens.{packet_opened, from_response, opened, open_answer_refusal, opens}
@@ -99,10 +97,10 @@ module _ (s : NetcodeServer) (t : List ℕ) (n i start end : ℕ) (p : Packet) (
       ap₂ half (e ∙ ap (λ (x : ℕ). closed s (answer.Payload x start end)) g) h ∙ ap (slot_says s t n i start end) (sym f)
 
   pub slot_ended : p ≡ packet.Disconnect → (id : ℕ) → id ≡ id_of t n i → (addr : Address) → addr ≡ address_of t n i → (u : List ℕ) → u ≡ emptied t i
-      → r ≡ closed s (answer.ClientDisconnected id addr 0 0) → half r u ≡ slot_says s t n i start end p
+      → r ≡ closed s (answer.ClientDisconnected id addr 0 None) → half r u ≡ slot_says s t n i start end p
   unfolding slot_says
   slot_ended f id g addr k u h e =
-      ap₂ half (e ∙ ap₂ (λ (x : ℕ) (y : Address). closed s (answer.ClientDisconnected x y 0 0)) g k) h ∙ ap (slot_says s t n i start end) (sym f)
+      ap₂ half (e ∙ ap₂ (λ (x : ℕ) (y : Address). closed s (answer.ClientDisconnected x y 0 None)) g k) h ∙ ap (slot_says s t n i start end) (sym f)
 
 -- ---- what a good packet of a pending sender leads to
 
@@ -161,11 +159,11 @@ kind_read kind.KeepAlive b = refl
 kind_read kind.Payload b = refl
 kind_read kind.Disconnect b = refl
 
-whole_enough : (k : PacketType) (b : List ℕ) (p : Packet) → read_body k b ≡ Whole p → least (kind_of p) ≤ length b
+whole_enough : (k : PacketType) (b : List ℕ) (p : Packet) → read_body k b ≡ Ok p → least (kind_of p) ≤ length b
 unfolding read_body pick
 whole_enough k b p e = by (ltb (length b) (least k)) refl e
   where
-    by : (c : Bool) → ltb (length b) (least k) ≡ c → pick c Short (Whole (numbers k b)) ≡ Whole p → least (kind_of p) ≤ length b
+    by : (c : Bool) → ltb (length b) (least k) ≡ c → pick {A = Result Packet ℕ} c (Err 9) (Ok (numbers k b)) ≡ Ok p → least (kind_of p) ≤ length b
     by true f h = absurd (let z : ◌≡◌ {A = ℕ} 0 1 = cc in omega arith)
     by false f h =
         let q : numbers k b ≡ p = cc in
@@ -173,7 +171,7 @@ whole_enough k b p e = by (ltb (length b) (least k)) refl e
         let m : least (kind_of p) ≡ least k = ap (λ (x : Packet). least (kind_of x)) (sym q) ∙ ap least (kind_read k b) in
         omega arith
 
-pub body_fits : (k : PacketType) (d : List ℕ) (start : ℕ) → start + 16 ≤ length d → (b : Body) → b ≡ body_in k start d → (p : Packet) → b ≡ Whole p
+pub body_fits : (k : PacketType) (d : List ℕ) (start : ℕ) → start + 16 ≤ length d → (b : Result Packet ℕ) → b ≡ body_in k start d → (p : Packet) → b ≡ Ok p
     → start + least (kind_of p) ≤ length d
 body_fits k d start h b e p f =
     let w : least (kind_of p) ≤ length (part d start (length d - 16 - start)) = whole_enough k (part d start (length d - 16 - start)) p (sym e ∙ f) in
@@ -182,12 +180,12 @@ body_fits k d start h b e p f =
 
 -- ---- after the yes: u is the table with the window moved, b the body
 
-module _ (s : NetcodeServer) (t : List ℕ) (i : ℕ) (k : PacketType) (sequence start : ℕ) (d u : List ℕ) (b : Body) (read : b ≡ body_in k start d) where
+module _ (s : NetcodeServer) (t : List ℕ) (i : ℕ) (k : PacketType) (sequence start : ℕ) (d u : List ℕ) (b : Result Packet ℕ) (read : b ≡ body_in k start d) where
   module _ (moved : u ≡ accepted t s.set.slots i k sequence) where
-    abbrev slot_way : Body → Half
+    abbrev slot_way : Result Packet ℕ → Half
     slot_way x = slot_body s (accepted t s.set.slots i k sequence) s.set.slots i start (length d - 16) x
 
-    pub slot_whole : (p : Packet) → b ≡ Whole p → (v : List ℕ) → v ≡ touched s u s.set.slots i
+    pub slot_whole : (p : Packet) → b ≡ Ok p → (v : List ℕ) → v ≡ touched s u s.set.slots i
         → (h : Half) → h ≡ slot_says s v s.set.slots i start (length d - 16) p → h ≡ slot_heard s t i k sequence start d
     unfolding slot_heard slot_body
     slot_whole p f v g h e =
@@ -195,23 +193,23 @@ module _ (s : NetcodeServer) (t : List ℕ) (i : ℕ) (k : PacketType) (sequence
         ∙ ap (λ (x : List ℕ). slot_says s x s.set.slots i start (length d - 16) p) (g ∙ ap (λ (x : List ℕ). touched s x s.set.slots i) moved)
         ∙ ap slot_way (sym f ∙ read)
 
-    pub slot_short : b ≡ Short → (r : Turn) → r ≡ closed s (answer.Refused 9) → half r u ≡ slot_heard s t i k sequence start d
+    pub slot_short : (n : ℕ) → b ≡ Err n → (r : Turn) → r ≡ closed s (answer.Refused n) → half r u ≡ slot_heard s t i k sequence start d
     unfolding slot_heard slot_body
-    slot_short f r e = ap₂ half e moved ∙ ap slot_way (sym f ∙ read)
+    slot_short n f r e = ap₂ half e moved ∙ ap slot_way (sym f ∙ read)
 
   module _ (moved : u ≡ accepted t s.set.pending i k sequence) (out : ℕ) where
-    abbrev pending_way : Body → Half
+    abbrev pending_way : Result Packet ℕ → Half
     pending_way x = pending_body s (accepted t s.set.pending i k sequence) s.set.pending i start (length d) out x
 
-    pub pending_whole : (p : Packet) → b ≡ Whole p → (v : List ℕ) → v ≡ touched s u s.set.pending i
+    pub pending_whole : (p : Packet) → b ≡ Ok p → (v : List ℕ) → v ≡ touched s u s.set.pending i
         → (r : Turn) → r ≡ pending_says s i start (length d) out p → half r v ≡ pending_heard s t i k sequence start out d
     unfolding pending_heard pending_body
     pending_whole p f v g r e =
         ap₂ half e (g ∙ ap (λ (x : List ℕ). touched s x s.set.pending i) moved) ∙ ap pending_way (sym f ∙ read)
 
-    pub pending_short : b ≡ Short → (r : Turn) → r ≡ closed s (answer.Refused 9) → half r u ≡ pending_heard s t i k sequence start out d
+    pub pending_short : (n : ℕ) → b ≡ Err n → (r : Turn) → r ≡ closed s (answer.Refused n) → half r u ≡ pending_heard s t i k sequence start out d
     unfolding pending_heard pending_body
-    pending_short f r e = ap₂ half e moved ∙ ap pending_way (sym f ∙ read)
+    pending_short n f r e = ap₂ half e moved ∙ ap pending_way (sym f ∙ read)
 
 -- ---- a response whose challenge was opened
 
@@ -253,24 +251,24 @@ module _ (s : NetcodeServer) (datagram : ℕ) (held out : List ℕ) (j i : ℕ) 
       ∙ simp (ne_eqb sequence (2 ^ 64 - 1) (λ z. n (counted ∙ z)))
 
 -- by the lowest free slot, which there is
-pub free_few : (t : List ℕ) (n : ℕ) → Shaped t n → (f : Found) → f ≡ find_free t n → (i : ℕ) → f ≡ found.At i → i < 4096
+pub free_few : (t : List ℕ) (n : ℕ) → Shaped t n → (f : Option ℕ) → f ≡ find_free t n → (i : ℕ) → f ≡ Some i → i < 4096
 free_few t n s f e i g =
     let b : i < n = ((free_found t n i).0 (sym e ∙ g)).below in
     let m = s.few in
     omega arith
 
 module _ (s : NetcodeServer) (datagram : ℕ) (slots pending held out : List ℕ) (j : ℕ) (token : ChallengeToken)
-    (f : Found) (searched : f ≡ find_free slots s.set.slots) where
-  abbrev free_way : Found → Prepared
+    (f : Option ℕ) (searched : f ≡ find_free slots s.set.slots) where
+  abbrev free_way : Option ℕ → Prepared
   free_way x = by_free s datagram pending held out j token x
 
-  pub free_there : (i : ℕ) → f ≡ found.At i
+  pub free_there : (i : ℕ) → f ≡ Some i
       → (x : Prepared) → x ≡ connecting s datagram held out j i (send_key_of s pending j) (counter_of s pending j) token
       → x ≡ free_way (find_free slots s.set.slots)
   unfolding by_free
   free_there i g x e = e ∙ ap free_way (sym g ∙ searched)
 
-  pub free_nowhere : f ≡ found.Nothing → (key : List ℕ) → key ≡ send_key_of s pending j → (addr : Address) → addr ≡ address_of pending s.set.pending j
+  pub free_nowhere : f ≡ None → (key : List ℕ) → key ≡ send_key_of s pending j → (addr : Address) → addr ≡ address_of pending s.set.pending j
       → (r : Turn) (out' : List ℕ) → spoken r out' ≡ denied s datagram out key addr
       → prepared r held out' ≡ free_way (find_free slots s.set.slots)
   unfolding by_free
@@ -279,7 +277,7 @@ module _ (s : NetcodeServer) (datagram : ℕ) (slots pending held out : List ℕ
 
 -- the pending table is q, emptied at place j; f is what the search for the challenge's id found
 module _ (s : NetcodeServer) (slots pending held out : List ℕ) (j at : ℕ) (d : List ℕ) (token : ChallengeToken) (read : token ≡ token_at d at)
-    (q : List ℕ) (left : q ≡ emptied pending j) (f : Found) (searched : f ≡ find_id slots s.set.slots token.client_id) where
+    (q : List ℕ) (left : q ≡ emptied pending j) (f : Option ℕ) (searched : f ≡ find_id slots s.set.slots token.client_id) where
   abbrev answer_to : Prepared
   answer_to = responded s slots pending held out j at d
 
@@ -293,14 +291,14 @@ module _ (s : NetcodeServer) (slots pending held out : List ℕ) (j at : ℕ) (d
   with_table : (x : Prepared) → x ≡ answer_to → written (came x.turn slots q) x.held x.out ≡ from_response (state s slots pending) j answer_to
   with_table x e = ap₂ (λ (y : Prepared) (p : List ℕ). written (came y.turn slots p) y.held y.out) e left
 
-  pub response_repeated : (k : ℕ) → f ≡ found.At k → (r : Turn) → r ≡ closed s answer.Nothing
+  pub response_repeated : (k : ℕ) → f ≡ Some k → (r : Turn) → r ≡ closed s answer.Nothing
       → written (came r slots q) held out ≡ from_response (state s slots pending) j answer_to
   unfolding by_id
   response_repeated k g r e =
       with_table (prepared r held out)
       (ap (λ (x : Turn). prepared x held out) e ∙ ap (by_id s (length d) slots q held out j token) (sym g) ∙ by_search)
 
-  pub response_new : f ≡ found.Nothing → (r : Turn) (held' out' : List ℕ)
+  pub response_new : f ≡ None → (r : Turn) (held' out' : List ℕ)
       → prepared r held' out' ≡ by_free s (length d) q held out j token (find_free slots s.set.slots)
       → written (came r slots q) held' out' ≡ from_response (state s slots pending) j answer_to
   unfolding by_id
@@ -362,9 +360,10 @@ answer_ready t datagram out r e z =
 
 -- ---- the answer to an ask
 
-pub tables_tested : (s : NetcodeServer) (slots pending : List ℕ) (datagram out tables : ℕ) → tables ≡ both_refusal s.set (length slots) (length pending)
-    → (r : ℕ) → r ≡ open_refusal s tables 1 datagram out → r ≡ open_answer_refusal (state s slots pending) datagram out
-tables_tested s slots pending datagram out tables e r f = f ∙ ap (λ (x : ℕ). open_refusal s x 1 datagram out) e
+pub tables_tested : (s : NetcodeServer) (slots pending : List ℕ) (datagram out : ℕ) (tables : Result (Unit {0}) ℕ)
+    → tables ≡ verdict (both_refusal s.set (length slots) (length pending))
+    → (r : Result (Unit {0}) ℕ) → r ≡ open_verdict s tables 1 datagram out → r ≡ verdict (open_answer_refusal (state s slots pending) datagram out)
+tables_tested s slots pending datagram out tables e r f = open_tested s (both_refusal s.set (length slots) (length pending)) 1 datagram out tables r e f
 
 module _ (t : State) (connected : Bool) (place : ℕ) (k : PacketType) (sequence start out : ℕ) (d : List ℕ) where
   abbrev packet_way : Bool → Outcome

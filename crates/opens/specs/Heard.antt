@@ -1,6 +1,6 @@
 -- A packet that the host opened (document 01, "The window": acceptance comes after a yes and before the body is read; "How a connection
 -- lives", Connected address and Pending address; "When the server says no", 9: the window has advanced if windowed).
-use Rattle.std.specs.Prelude.{ℕ, ◌+◌, ◌-◌, List, length, set}
+use Rattle.std.specs.Prelude.{ℕ, ◌+◌, ◌-◌, List, length, set, Result, Ok, Err, None}
 use Rattle.serialize.specs.Choice.{pick}
 use Rattle.serialize.specs.Runs.{part}
 use Rattle.replay_protection.specs.Replay.{arrive}
@@ -9,8 +9,6 @@ use Rattle.replay_protection.specs.Ours.{width}
 use Rattle.bodies.specs.declared.PacketType.{PacketType}
 use Rattle.bodies.specs.declared.Packet.{Packet}
 use Rattle.bodies.specs.declared.Packet.TheVariants as packet
-use Rattle.bodies.specs.declared.Body.{Body}
-use Rattle.bodies.specs.declared.Body.TheVariants.{Whole, Short}
 use Rattle.bodies.specs.Kinds.{windowed}
 use Rattle.bodies.specs.Bodies.{read_body}
 use Rattle.asks.specs.declared.Work.TheVariants.{Open}
@@ -45,12 +43,12 @@ slot_says s t n i start end (packet.Challenge sequence) = half (closed s Nothing
 slot_says s t n i start end (packet.Response sequence) = half (closed s Nothing) t
 slot_says s t n i start end (packet.KeepAlive index maximum) = half (closed s Nothing) (confirmed t n i)
 slot_says s t n i start end packet.Payload = half (closed s (Payload (id_of t n i) start end)) (confirmed t n i)
-slot_says s t n i start end packet.Disconnect = half (closed s (ClientDisconnected (id_of t n i) (address_of t n i) 0 0)) (emptied t i)
+slot_says s t n i start end packet.Disconnect = half (closed s (ClientDisconnected (id_of t n i) (address_of t n i) 0 None)) (emptied t i)
 
--- 9 for a short body: the window has advanced, the received time is not set
-unfoldable pub slot_body : NetcodeServer → List ℕ → ℕ → ℕ → ℕ → ℕ → Body → Half
-slot_body s t n i start end (Whole p) = slot_says s (touched s t n i) n i start end p
-slot_body s t n i start end Short = half (closed s (Refused 9)) t
+-- what refuses the body, 9 for a short one: the window has advanced, the received time is not set
+unfoldable pub slot_body : NetcodeServer → List ℕ → ℕ → ℕ → ℕ → ℕ → Result Packet ℕ → Half
+slot_body s t n i start end (Ok p) = slot_says s (touched s t n i) n i start end p
+slot_body s t n i start end (Err r) = half (closed s (Refused r)) t
 
 -- ---- pending address: a response asks for its challenge, 300 bytes after the token sequence, which is its nonce; windowed packets are
 -- accepted and not handed out; others: nothing
@@ -68,13 +66,13 @@ pending_says s j start datagram out (packet.KeepAlive index maximum) = closed s 
 pending_says s j start datagram out packet.Payload = closed s Nothing
 pending_says s j start datagram out packet.Disconnect = closed s Nothing
 
-unfoldable pub pending_body : NetcodeServer → List ℕ → ℕ → ℕ → ℕ → ℕ → ℕ → Body → Half
-pending_body s t m j start datagram out (Whole p) = half (pending_says s j start datagram out p) (touched s t m j)
-pending_body s t m j start datagram out Short = half (closed s (Refused 9)) t
+unfoldable pub pending_body : NetcodeServer → List ℕ → ℕ → ℕ → ℕ → ℕ → ℕ → Result Packet ℕ → Half
+pending_body s t m j start datagram out (Ok p) = half (pending_says s j start datagram out p) (touched s t m j)
+pending_body s t m j start datagram out (Err r) = half (closed s (Refused r)) t
 
 -- ---- after the yes: the window moves, then the body is read from what stands between the sequence and the tag
 
-abbrev pub body_in : PacketType → ℕ → List ℕ → Body
+abbrev pub body_in : PacketType → ℕ → List ℕ → Result Packet ℕ
 body_in kind start d = read_body kind (part d start (length d - 16 - start))
 
 unfoldable pub slot_heard : NetcodeServer → List ℕ → ℕ → PacketType → ℕ → ℕ → List ℕ → Half

@@ -2,9 +2,7 @@
 -- the challenge's id is connected, nothing; if no slot is free, denied; else the lowest free slot takes the record, with the pending id and
 -- the challenge's user data, and a keep-alive goes back). What the slot takes stays in the words of the emptied place until the keep-alive is
 -- sealed; the challenge's user data is held.
-use Rattle.std.specs.Prelude.{ℕ, ◌-◌, ◌^◌, List, length, eqb}
-use Rattle.serialize.specs.declared.Found.{Found}
-use Rattle.serialize.specs.declared.Found.TheVariants.{At, Nothing}
+use Rattle.std.specs.Prelude.{ℕ, ◌-◌, ◌^◌, List, length, eqb, Option, Some, None}
 use Rattle.serialize.specs.Choice.{pick}
 use Rattle.bodies.specs.declared.challenge.ChallengeToken.{ChallengeToken}
 use Rattle.bodies.specs.Bodies.{kind_of}
@@ -39,15 +37,15 @@ abbrev pub counter_of : NetcodeServer → List ℕ → ℕ → ℕ
 counter_of s pending j = word_of pending (sequence_at s.set.pending j)
 
 -- by the lowest free slot; where there is none, denied under the pending send key
-unfoldable pub by_free : NetcodeServer → ℕ → List ℕ → List ℕ → List ℕ → ℕ → ChallengeToken → Found → Prepared
-by_free s datagram pending held out j token (At i) = connecting s datagram held out j i (send_key_of s pending j) (counter_of s pending j) token
-by_free s datagram pending held out j token Nothing =
+unfoldable pub by_free : NetcodeServer → ℕ → List ℕ → List ℕ → List ℕ → ℕ → ChallengeToken → Option ℕ → Prepared
+by_free s datagram pending held out j token (Some i) = connecting s datagram held out j i (send_key_of s pending j) (counter_of s pending j) token
+by_free s datagram pending held out j token None =
     holding held (denied s datagram out (send_key_of s pending j) (address_of pending s.set.pending j))
 
 -- by a slot with the challenge's id: nothing then. `pending` has the place emptied already.
-unfoldable pub by_id : NetcodeServer → ℕ → List ℕ → List ℕ → List ℕ → List ℕ → ℕ → ChallengeToken → Found → Prepared
-by_id s datagram slots pending held out j token (At k) = prepared (closed s answer.Nothing) held out
-by_id s datagram slots pending held out j token Nothing =
+unfoldable pub by_id : NetcodeServer → ℕ → List ℕ → List ℕ → List ℕ → List ℕ → ℕ → ChallengeToken → Option ℕ → Prepared
+by_id s datagram slots pending held out j token (Some k) = prepared (closed s answer.Nothing) held out
+by_id s datagram slots pending held out j token None =
     by_free s datagram pending held out j token (find_free slots s.set.slots)
 
 unfoldable pub responded : NetcodeServer → List ℕ → List ℕ → List ℕ → List ℕ → ℕ → ℕ → List ℕ → Prepared

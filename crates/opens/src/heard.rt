@@ -6,7 +6,7 @@ ghost use Rattle.turns.specs.Outcomes.{half};
 ghost use Rattle.opens.specs.Heard.{accepted, slot_says, challenge_asked, pending_says, slot_heard, pending_heard};
 
 use asks::{NETCODE_MAC_BYTES, Work};
-use bodies::{Body, NETCODE_CHALLENGE_TOKEN_BYTES, Packet, PacketType};
+use bodies::{NETCODE_CHALLENGE_TOKEN_BYTES, Packet, PacketType};
 use server::{Answer, NetcodeServer, Stage};
 use turns::Turn;
 
@@ -59,7 +59,7 @@ fn slot_says(
                 client_id: places::client_id(slots, n, i),
                 addr: places::address(slots, n, i),
                 end: 0,
-                refusal: 0,
+                refusal: None,
             };
             records::empty(slots, n, i);
             turns::closed(server, answer)
@@ -67,7 +67,7 @@ fn slot_says(
     }
 }
 
-// A packet from a connected address: 9 where its body is short, with the window moved.
+// A packet from a connected address: what refuses its body, 9 where that is short, with the window moved.
 pub fn from_slot(
     server: NetcodeServer,
     i: usize,
@@ -85,12 +85,12 @@ pub fn from_slot(
     accept(slots, n, i, kind, sequence);
     let end = datagram.len() - NETCODE_MAC_BYTES;
     match bodies::read(kind, datagram, start, end - start) {
-        Body::Whole(packet) => {
+        Ok(packet) => {
             let now = server.current_time;
             records::set_received_time(slots, n, i, now);
             slot_says(server, slots, n, i, start, end, packet)
         }
-        Body::Short => turns::closed(server, Answer::Refused(9)),
+        Err(refusal) => turns::closed(server, Answer::Refused(refusal)),
     }
 }
 
@@ -168,11 +168,11 @@ pub fn from_pending(
     let len = datagram.len();
     let end = len - NETCODE_MAC_BYTES;
     match bodies::read(kind, datagram, start, end - start) {
-        Body::Whole(packet) => {
+        Ok(packet) => {
             let now = server.current_time;
             records::set_received_time(pending, m, j, now);
             pending_says(server, j, start, len, out, packet)
         }
-        Body::Short => turns::closed(server, Answer::Refused(9)),
+        Err(refusal) => turns::closed(server, Answer::Refused(refusal)),
     }
 }

@@ -2,20 +2,19 @@
 #![tactic(auto)]
 
 ghost use Rattle.std.specs.Prelude.{◌≡◌, false, ◌≤◌, length};
+ghost use Rattle.refusal.specs.Verdicts.{verdict};
 ghost use Rattle.places.specs.Layout.{Shaped};
 ghost use Rattle.server.specs.Ready.{misfits};
 ghost use Rattle.turns.specs.Outcomes.{state, came, written};
 ghost use Rattle.opens.specs.Opens.{packet_opened, opened, open_answer_refusal, opens};
 
 use bodies::PacketType;
-use server::{Answer, HELD_BYTES, NetcodeServer, Stage};
+use refusal::{Refusal, Why};
+use server::{Answer, HELD_BYTES, NetcodeServer, Stage, Wanted};
 use turns::Turn;
 
 mod heard;
 mod responses;
-
-// The kind of answer that an ask to open a packet or a challenge wants.
-const OPENS: u8 = 1;
 
 // 17, 23, 18.
 fn answer_refusal(
@@ -24,12 +23,12 @@ fn answer_refusal(
     pending: &[u64],
     datagram: usize,
     out: usize,
-) -> u8
-    ensures { result ≡ open_answer_refusal (state server slots.now pending.now) datagram out }
+) -> Result<(), Refusal>
+    ensures { result ≡ verdict (open_answer_refusal (state server slots.now pending.now) datagram out) }
 {
     let set = server.set;
     let tables = server::both_tables_refusal(set, slots.len(), pending.len());
-    turns::open_refusal(server, tables, OPENS, datagram, out)
+    turns::open_refusal(server, tables, Wanted::Open, datagram, out)
 }
 
 // A packet that was opened, by its sender's table.
@@ -69,7 +68,7 @@ fn opened(
     let ask = server.ask;
     let stage = ask.stage;
     match stage {
-        Stage::Idle => turns::refused(server, 17),
+        Stage::Idle => turns::refused(server, Refusal(Why::NoAsk)),
         Stage::Packet {
             connected,
             place,
@@ -82,11 +81,11 @@ fn opened(
                 server, connected, place, kind, sequence, start, slots, pending, room, datagram,
             )
         }
-        Stage::Token { .. } => turns::refused(server, 18),
+        Stage::Token { .. } => turns::refused(server, Refusal(Why::AnswerUnfit)),
         Stage::Challenge { place, start } => {
             responses::respond(server, place, start, slots, pending, held, out, datagram)
         }
-        Stage::Seal { .. } => turns::refused(server, 18),
+        Stage::Seal { .. } => turns::refused(server, Refusal(Why::AnswerUnfit)),
     }
 }
 
@@ -102,12 +101,11 @@ pub fn answer_open(
 ) -> Turn
     ensures { written (came result slots.new pending.new) held.new out.new ≡ opens (state server slots.old pending.old) granted held.old out.old datagram.now }
 {
-    let refusal = answer_refusal(server, slots, pending, datagram.len(), out.len());
-    if refusal != 0 {
+    if let Err(refusal) = answer_refusal(server, slots, pending, datagram.len(), out.len()) {
         return turns::refused(server, refusal);
     }
     if granted {
         return opened(server, slots, pending, held, out, datagram);
     }
-    turns::closed(server, Answer::Refused(8))
+    turns::closed(server, Answer::Refused(Refusal(Why::NotOpened)))
 }

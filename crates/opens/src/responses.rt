@@ -8,7 +8,7 @@ ghost use Rattle.opens.specs.Responses.{send_key_of, counter_of, connecting, by_
 ghost use Rattle.opens.specs.Opens.{from_response};
 
 use bodies::ChallengeToken;
-use serialize::Found;
+use refusal::{Refusal, Why};
 use server::{Answer, Goal, HELD_BYTES, NetcodeServer, Stage};
 use turns::{MOST, Turn};
 
@@ -30,7 +30,7 @@ fn ask_connecting(
     let m = set.pending;
     let sequence = records::sequence(pending, m, j);
     if sequence == MOST {
-        return turns::closed(server, Answer::Refused(15));
+        return turns::closed(server, Answer::Refused(Refusal(Why::CounterSpent)));
     }
     let len = out.len();
     let key = records::send_key(pending, m, j);
@@ -64,8 +64,8 @@ fn connect(
     let set = server.set;
     let m = set.pending;
     match places::find_free(slots, set.slots) {
-        Found::At(i) => ask_connecting(server, datagram, pending, held, out, j, i, token),
-        Found::Nothing => {
+        Some(i) => ask_connecting(server, datagram, pending, held, out, j, i, token),
+        None => {
             let key = records::send_key(pending, m, j);
             let addr = places::address(pending, m, j);
             turns::deny(server, datagram, out, key, addr)
@@ -91,8 +91,8 @@ pub fn respond(
     let token = ChallengeToken::read(datagram, at);
     records::empty(pending, set.pending, j);
     match places::find_by_id(slots, set.slots, token.client_id) {
-        Found::At(_) => turns::closed(server, Answer::Nothing),
-        Found::Nothing => {
+        Some(_) => turns::closed(server, Answer::Nothing),
+        None => {
             let len = datagram.len();
             connect(server, len, slots, pending, held, out, j, token)
         }

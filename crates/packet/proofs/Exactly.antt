@@ -6,6 +6,7 @@ use mathlib.Core.Bool.{Bool, true, false, not, ◌&&◌}
 use Prim.Native.Nat.{ℕ, ◌+◌, ◌-◌, ◌%◌, ◌^◌, ◌≤◌, ◌<◌}
 use native.Mathlib.Omega.{arith}
 use mathlib.Core.List.{List}
+use Rattle.std.specs.Prelude.{Option, Some, None, is_some, Result, Ok, Err}
 use lib.ListN.{length, get_or}
 use lib.Dec.{eqb, ltb, leb}
 use borrow.Author.Tests.{lt-ltb, le-ltb, lt-leb, le-leb, eq-eqb, ne_eqb, ltb-true, ltb-false, leb-true, leb-false, eqb-false}
@@ -13,34 +14,28 @@ use Rattle.serialize.specs.Choice.{pick}
 use Rattle.serialize.specs.Runs.{part}
 use Rattle.serialize.proofs.Choice.{by_test}
 use Rattle.serialize.proofs.Lists.{length_part}
+use Rattle.replay_protection.specs.declared.ReplayProtection.{ReplayProtection}
 use Rattle.replay_protection.specs.Replay.{refusal_by, refuses}
 use Rattle.replay_protection.specs.Ours.{width, window_of}
 use Rattle.bodies.specs.declared.PacketType.{PacketType}
 use Rattle.bodies.specs.declared.Packet.{Packet}
 use Rattle.bodies.specs.declared.challenge.ChallengeToken.{ChallengeToken}
-use Rattle.bodies.specs.declared.TypeRead.{TypeRead}
-use Rattle.bodies.specs.declared.TypeRead.TheVariants.{Known, Invalid}
-use Rattle.bodies.specs.declared.Body.TheVariants.{Whole}
 use Rattle.bodies.specs.Kinds.{type_of, windowed, is_request}
 use Rattle.bodies.specs.Bodies.{kind_of, least, wants, numbers, read_body}
 use Rattle.bodies.proofs.Back.{type_reads_back, typed_number, untyped_number, number_untyped, request_least}
-use Rattle.asks.specs.declared.PrivateKey.{PrivateKey}
-use Rattle.decode.specs.declared.Guard.{Guard}
 use Rattle.decode.specs.declared.Opened.{Opened}
 use Rattle.decode.specs.declared.Decoded.{Decoded}
 use Rattle.decode.specs.declared.Decoding.TheVariants as decoding
 use Rattle.encode.specs.declared.Encoding.TheVariants as encoding
-use Rattle.decode.specs.declared.Opening.TheVariants as opening
 use Rattle.decode.specs.declared.Proving.TheVariants as proving
-use Rattle.decode.specs.declared.ProofOpening.TheVariants as proof
-use Rattle.encode.specs.declared.Sealing.TheVariants as sealing
-use Rattle.asks.specs.Asks.{no_ask, unlike}
-use Rattle.encode.specs.Encodes.{Done, done, encoded_as, refused_by, need, unencodable, written_as, encode, answer_seal_open, answer_seal}
-use Rattle.decode.specs.Decodes.{decoded_as, ended, typed, type_at, count_of, sequence_of, start_at, window_refusal, guard_refusal, guard_accepts, by_body, read_opened, decode_at, by_start, decode_sealed, decode_of, by_kind, decode, answer_opened, answer_open}
+use Rattle.asks.specs.Asks.{no_ask, unlike, key_bytes}
+use Rattle.encode.specs.Encodes.{Done, done, encoded_as, open_at, refused_by, need, unencodable, written_as, encode, answer_seal_open, answer_seal}
+use Rattle.decode.specs.Decodes.{decoded_as, ended, opening_as, type_at, count_of, sequence_of, start_at, window_refusal, guard_refusal, guard_accepts, by_body, read_opened, decode_at, by_start, decode_of, by_kind, decode, answer_opened, answer_open}
 use Rattle.encode.specs.Generates.{generate_challenge}
-use Rattle.decode.specs.Challenges.{unproved, decode_challenge, answer_proof}
+use Rattle.decode.specs.Challenges.{proof_as, unproved, decode_challenge, answer_proof}
 use Rattle.packet.specs.Table.{Iff, Typed, Keyed, Passes, DecodeSays, says_1, says_2, says_9, says_3, says_4, says_5, says_6, says_7, Lent, OpenSays, opens_18, opens_8, opens_9, MayWrite, EncodeSays, encodes_3, encodes_14, encodes_9, SealSays, seals_18, seals_24, ProofSays, proves_18, proves_8, Refusals}
 use Rattle.asks.proofs.Lent.{like_means}
+use Rattle.decode.proofs.Ways.{sealed_keyed, sealed_keyless}
 use Rattle.encode.proofs.Ways.{lacks_key, lacks_room, lacks_bytes, lacks_nothing}
 
 -- ---- answers that differ
@@ -75,51 +70,79 @@ not_proved e = let z : ◌≡◌ {A = ℕ} 0 1 = cc in omega arith
 same_number : {m n : ℕ} → decoding.Refused m ≡ decoding.Refused n → m ≡ n
 same_number e = cc
 
+same_window : {w v : ReplayProtection} → ◌≡◌ {A = Option ReplayProtection} (Some w) (Some v) → w ≡ v
+same_window e = cc
+
+none_some : {A : Type 0} {x : A} → ◌≡◌ {A = Option A} None (Some x) → ⊥
+none_some e = let z : ◌≡◌ {A = ℕ} 0 1 = cc in omega arith
+
+no_type : {k : PacketType} {m : ℕ} → ◌≡◌ {A = Result PacketType ℕ} (Ok k) (Err m) → ⊥
+no_type e = let z : ◌≡◌ {A = ℕ} 0 1 = cc in omega arith
+
+-- a number that is no type is refused as 2
+untyped : {m : ℕ} (n : ℕ) → type_of n ≡ Err m → type_of n ≡ Err 2
+unfolding type_of pick
+untyped n h =
+    by_test (eqb n 0) (λ e. absurd (no_type (simp e at h))) (λ e0.
+    by_test (eqb n 1) (λ e. absurd (no_type (simp (e0, e) at h))) (λ e1.
+    by_test (eqb n 2) (λ e. absurd (no_type (simp (e0, e1, e) at h))) (λ e2.
+    by_test (eqb n 3) (λ e. absurd (no_type (simp (e0, e1, e2, e) at h))) (λ e3.
+    by_test (eqb n 4) (λ e. absurd (no_type (simp (e0, e1, e2, e3, e) at h))) (λ e4.
+    by_test (eqb n 5) (λ e. absurd (no_type (simp (e0, e1, e2, e3, e4, e) at h))) (λ e5.
+    by_test (eqb n 6) (λ e. absurd (no_type (simp (e0, e1, e2, e3, e4, e5, e) at h))) (λ e6.
+    simp (e0, e1, e2, e3, e4, e5, e6))))))))
+
 -- ---- the window's number
 
-module _ (guard : Guard) (kind : PacketType) (sequence : ℕ) where
-  guard_5 : windowed kind ≡ true → 2 ^ 64 ≤ sequence + width → guard_refusal kind guard sequence ≡ 5
-  unfolding guard_refusal window_refusal refusal_by pick
-  guard_5 w h = by_test guard.given (λ e. simp (w, e, le-leb (2 ^ 64) (sequence + width) h)) (λ e. simp (w, e, le-leb (2 ^ 64) (sequence + width) h))
+window_5 : (guard : Option ReplayProtection) (sequence : ℕ) → 2 ^ 64 ≤ sequence + width → window_refusal guard sequence ≡ 5
+unfolding window_refusal refusal_by pick
+window_5 (Some window) sequence h = simp (le-leb (2 ^ 64) (sequence + width) h)
+window_5 None sequence h = simp (le-leb (2 ^ 64) (sequence + width) h)
 
-  guard_6 : windowed kind ≡ true → sequence + width < 2 ^ 64 → guard.given ≡ true → refuses width (window_of guard.window) sequence ≡ true → guard_refusal kind guard sequence ≡ 6
+window_0 : (guard : Option ReplayProtection) (sequence : ℕ) → sequence + width < 2 ^ 64 → ((window : ReplayProtection) → guard ≡ Some window → refuses width (window_of window) sequence ≡ false)
+    → window_refusal guard sequence ≡ 0
+unfolding window_refusal refusal_by pick
+window_0 (Some window) sequence h f = simp (lt-leb (2 ^ 64) (sequence + width) h, f window refl)
+window_0 None sequence h f = simp (lt-leb (2 ^ 64) (sequence + width) h)
+
+module _ (guard : Option ReplayProtection) (kind : PacketType) (sequence : ℕ) where
+  guard_5 : windowed kind ≡ true → 2 ^ 64 ≤ sequence + width → guard_refusal kind guard sequence ≡ 5
+  unfolding guard_refusal pick
+  guard_5 w h = simp w (window_5 guard sequence h)
+
+  guard_6 : (window : ReplayProtection) → windowed kind ≡ true → sequence + width < 2 ^ 64 → guard ≡ Some window → refuses width (window_of window) sequence ≡ true → guard_refusal kind guard sequence ≡ 6
   unfolding guard_refusal window_refusal refusal_by pick
-  guard_6 w h e r = simp (w, e, lt-leb (2 ^ 64) (sequence + width) h, r)
+  guard_6 window w h e r = simp (w, e, lt-leb (2 ^ 64) (sequence + width) h, r)
 
   guard_0 : Passes guard kind sequence → guard_refusal kind guard sequence ≡ 0
-  unfolding guard_refusal window_refusal refusal_by pick
-  guard_0 p =
-      by_test (windowed kind)
-      (λ w. by_test guard.given
-      (λ e. simp (w, e, lt-leb (2 ^ 64) (sequence + width) (p.below w), p.fresh w e))
-      (λ e. simp (w, e, lt-leb (2 ^ 64) (sequence + width) (p.below w))))
-      (λ w. simp w)
+  unfolding guard_refusal pick
+  guard_0 p = by_test (windowed kind) (λ w. simp w (window_0 guard sequence (p.below w) (λ window e. p.fresh window w e))) (λ w. simp w)
 
 -- ---- decode
 
-module _ (d : List ℕ) (protocol : ℕ) (key : PrivateKey) (guard : Guard) where
+module _ (d : List ℕ) (protocol : ℕ) (key : Option (List ℕ)) (guard : Option ReplayProtection) where
   -- what decode comes to for a datagram of a type
   decode_typed : (kind : PacketType) → Typed d kind → decode d protocol key guard ≡ decode_of d kind protocol key guard
   unfolding decode type_at pick
-  decode_typed kind t = simp (le-ltb (length d) 18 t.long) (ap (λ (x : TypeRead). by_kind d protocol key guard (typed x)) (ap type_of t.type ∙ type_reads_back kind))
+  decode_typed kind t = simp (le-ltb (length d) 18 t.long) (ap (by_kind d protocol key guard) (ap type_of t.type ∙ type_reads_back kind))
 
   -- of a sealed type, with a key and at most 8 sequence bytes
-  decode_keyed : (kind : PacketType) → Keyed d key.given kind → decode d protocol key guard ≡ by_start d kind protocol key.bytes guard (start_at d)
-  unfolding decode_of decode_sealed pick
-  decode_keyed kind k = decode_typed kind k.typed ∙ simp (k.sealed, k.given)
+  decode_keyed : (kind : PacketType) → Keyed d (is_some key) kind → decode d protocol key guard ≡ by_start d kind protocol (key_bytes key) guard (start_at d)
+  unfolding decode_of pick
+  decode_keyed kind k = decode_typed kind k.typed ∙ simp k.sealed (sealed_keyed d kind protocol key guard k.given)
 
-  decode_started : (kind : PacketType) → Keyed d key.given kind → count_of d ≤ 8 → decode d protocol key guard ≡ decode_at d kind protocol key.bytes (sequence_of d) (1 + count_of d) guard
+  decode_started : (kind : PacketType) → Keyed d (is_some key) kind → count_of d ≤ 8 → decode d protocol key guard ≡ decode_at d kind protocol (key_bytes key) (sequence_of d) (1 + count_of d) guard
   unfolding start_at pick
   decode_started kind k h = decode_keyed kind k ∙ simp (le-ltb 8 (count_of d) h)
 
   -- by the window's number
-  decode_guarded : (kind : PacketType) (n : ℕ) → Keyed d key.given kind → count_of d ≤ 8 → guard_refusal kind guard (sequence_of d) ≡ n → n ≢ 0 → decode d protocol key guard ≡ ended (decoding.Refused n) guard
+  decode_guarded : (kind : PacketType) (n : ℕ) → Keyed d (is_some key) kind → count_of d ≤ 8 → guard_refusal kind guard (sequence_of d) ≡ n → n ≢ 0 → decode d protocol key guard ≡ ended (decoding.Refused n) guard
   unfolding decode_at pick
   decode_guarded kind n k h e z = decode_started kind k h ∙ simp (e, ne_eqb n 0 z)
 
   -- a line of the table gives its number
-  says_given : (n : ℕ) → DecodeSays d key.given guard n → decode d protocol key guard ≡ ended (decoding.Refused n) guard
-  unfolding decode decode_of decode_sealed decode_at type_at start_at read_opened read_body pick
+  says_given : (n : ℕ) → DecodeSays d (is_some key) guard n → decode d protocol key guard ≡ ended (decoding.Refused n) guard
+  unfolding decode decode_of decode_at type_at start_at read_opened read_body pick
   says_given n (says_1 h) = simp (lt-ltb (length d) 18 h)
   says_given n (says_2 h o) = simp (le-ltb (length d) 18 h, number_untyped (get_or d 0 0 % 16) o)
   says_given n (says_9 kind t r h) =
@@ -127,16 +150,16 @@ module _ (d : List ℕ) (protocol : ℕ) (key : PrivateKey) (guard : Guard) wher
       let m : length (part d 1 (length d - 1)) ≡ length d - 1 = length_part d 1 (length d - 1) (omega arith) in
       let l : least kind ≡ 1077 = request_least kind r in
       decode_typed kind t ∙ simp (r, lt-ltb (length (part d 1 (length d - 1))) (least kind) (omega arith))
-  says_given n (says_3 kind t r k) = decode_typed kind t ∙ simp (r, k)
+  says_given n (says_3 kind t r k) = decode_typed kind t ∙ simp r (sealed_keyless d kind protocol key guard k)
   says_given n (says_4 kind k h) = decode_keyed kind k ∙ simp (lt-ltb 8 (count_of d) h)
   says_given n (says_5 kind k h w o) = decode_guarded kind 5 k h (guard_5 guard kind (sequence_of d) w o) (λ e. omega arith)
-  says_given n (says_6 kind k h w o e r) = decode_guarded kind 6 k h (guard_6 guard kind (sequence_of d) w o e r) (λ z. omega arith)
+  says_given n (says_6 kind window k h w o e r) = decode_guarded kind 6 k h (guard_6 guard kind (sequence_of d) window w o e r) (λ z. omega arith)
   says_given n (says_7 kind k h p o) =
       decode_started kind k h ∙ simp (eq-eqb (guard_refusal kind guard (sequence_of d)) 0 (guard_0 guard kind (sequence_of d) p), lt-ltb (length d) (1 + count_of d + 16) o)
 
   -- a datagram meets a line, or is not refused
   data Verdict : Type 0 where
-    line : (n : ℕ) → DecodeSays d key.given guard n → Verdict
+    line : (n : ℕ) → DecodeSays d (is_some key) guard n → Verdict
     none : ((n : ℕ) → (decode d protocol key guard).answer ≡ decoding.Refused n → ⊥) → Verdict
 
   past_request : (kind : PacketType) → Typed d kind → is_request kind ≡ true → Verdict
@@ -149,11 +172,11 @@ module _ (d : List ℕ) (protocol : ℕ) (key : PrivateKey) (guard : Guard) wher
       (λ e. line 9 (says_9 kind t r (ltb-true (length d) 1078 e)))
       (λ e.
       let o : 1078 ≤ length d = ltb-false (length d) 1078 e in
-      let f : (decode d protocol key guard).answer ≡ by_body 0 1 (length d) (Whole (numbers kind (part d 1 (length d - 1)))) =
+      let f : (decode d protocol key guard).answer ≡ by_body 0 1 (length d) (Ok (numbers kind (part d 1 (length d - 1)))) =
       ap (λ (x : Decoded). x.answer) (decode_typed kind t) ∙ simp (r, le-ltb (length (part d 1 (length d - 1))) (least kind) (omega arith)) in
       none (λ n g. not_read (sym f ∙ g)))
 
-  past_window : (kind : PacketType) → Keyed d key.given kind → count_of d ≤ 8 → Passes guard kind (sequence_of d) → Verdict
+  past_window : (kind : PacketType) → Keyed d (is_some key) kind → count_of d ≤ 8 → Passes guard kind (sequence_of d) → Verdict
   unfolding decode_at pick
   past_window kind k h p =
       by_test (ltb (length d) (1 + count_of d + 16))
@@ -163,44 +186,49 @@ module _ (d : List ℕ) (protocol : ℕ) (key : PrivateKey) (guard : Guard) wher
       ap (λ (x : Decoded). x.answer) (decode_started kind k h) ∙ simp (eq-eqb (guard_refusal kind guard (sequence_of d)) 0 (guard_0 guard kind (sequence_of d) p), e) in
       none (λ n g. not_asked (sym f ∙ g)))
 
-  past_head : (kind : PacketType) → Keyed d key.given kind → count_of d ≤ 8 → Verdict
+  past_guard : (kind : PacketType) → Keyed d (is_some key) kind → count_of d ≤ 8 → windowed kind ≡ true → sequence_of d + width < 2 ^ 64
+      → (g : Option ReplayProtection) → guard ≡ g → Verdict
+  past_guard kind k h w o (Some window) e =
+      by_test (refuses width (window_of window) (sequence_of d))
+      (λ r. line 6 (says_6 kind window k h w o e r))
+      (λ r. past_window kind k h (record {
+        below = λ x. o;
+        fresh = λ v x y. let z : window ≡ v = same_window (sym e ∙ y) in subst (λ (p : ReplayProtection). refuses width (window_of p) (sequence_of d) ≡ false) z r;
+      }))
+  past_guard kind k h w o None e = past_window kind k h (record { below = λ x. o; fresh = λ v x y. absurd (none_some (sym e ∙ y)) })
+
+  past_head : (kind : PacketType) → Keyed d (is_some key) kind → count_of d ≤ 8 → Verdict
   past_head kind k h =
       let s : ℕ = sequence_of d in
       by_test (windowed kind)
       (λ w. by_test (leb (2 ^ 64) (s + width))
       (λ e. line 5 (says_5 kind k h w (leb-true (2 ^ 64) (s + width) e)))
-      (λ e.
-      let o : s + width < 2 ^ 64 = leb-false (2 ^ 64) (s + width) e in
-      by_test guard.given
-      (λ g. by_test (refuses width (window_of guard.window) s)
-      (λ r. line 6 (says_6 kind k h w o g r))
-      (λ r. past_window kind k h (record { below = λ x. o; fresh = λ x y. r })))
-      (λ g. past_window kind k h (record { below = λ x. o; fresh = λ x y. absurd (differ (sym g ∙ y)) }))))
-      (λ w. past_window kind k h (record { below = λ x. absurd (differ (sym w ∙ x)); fresh = λ x y. absurd (differ (sym w ∙ x)) }))
+      (λ e. past_guard kind k h w (leb-false (2 ^ 64) (s + width) e) guard refl))
+      (λ w. past_window kind k h (record { below = λ x. absurd (differ (sym w ∙ x)); fresh = λ v x y. absurd (differ (sym w ∙ x)) }))
 
-  past_key : (kind : PacketType) → Keyed d key.given kind → Verdict
+  past_key : (kind : PacketType) → Keyed d (is_some key) kind → Verdict
   past_key kind k =
       by_test (ltb 8 (count_of d)) (λ e. line 4 (says_4 kind k (ltb-true 8 (count_of d) e))) (λ e. past_head kind k (ltb-false 8 (count_of d) e))
 
-  past_length : 18 ≤ length d → (t : TypeRead) → type_of (get_or d 0 0 % 16) ≡ t → Verdict
-  past_length h Invalid e = line 2 (says_2 h (untyped_number (get_or d 0 0 % 16) e))
-  past_length h (Known kind) e =
+  past_length : 18 ≤ length d → (t : Result PacketType ℕ) → type_of (get_or d 0 0 % 16) ≡ t → Verdict
+  past_length h (Err n) e = line 2 (says_2 h (untyped_number (get_or d 0 0 % 16) (untyped (get_or d 0 0 % 16) e)))
+  past_length h (Ok kind) e =
       let t : Typed d kind = record { long = h; type = typed_number (get_or d 0 0 % 16) kind e } in
       by_test (is_request kind)
       (λ r. past_request kind t r)
-      (λ r. by_test key.given
+      (λ r. by_test (is_some key)
       (λ g. past_key kind (record { typed = t; sealed = r; given = g }))
       (λ g. line 3 (says_3 kind t r g)))
 
   verdict : Verdict
   verdict = by_test (ltb (length d) 18) (λ e. line 1 (says_1 (ltb-true (length d) 18 e))) (λ e. past_length (ltb-false (length d) 18 e) (type_of (get_or d 0 0 % 16)) refl)
 
-  settle : (n : ℕ) → Verdict → (decode d protocol key guard).answer ≡ decoding.Refused n → DecodeSays d key.given guard n
-  settle n (line m s) e = subst (λ (x : ℕ). DecodeSays d key.given guard x) (same_number (sym (ap (λ (x : Decoded). x.answer) (says_given m s)) ∙ e)) s
+  settle : (n : ℕ) → Verdict → (decode d protocol key guard).answer ≡ decoding.Refused n → DecodeSays d (is_some key) guard n
+  settle n (line m s) e = subst (λ (x : ℕ). DecodeSays d (is_some key) guard x) (same_number (sym (ap (λ (x : Decoded). x.answer) (says_given m s)) ∙ e)) s
   settle n (none f) e = absurd (f n e)
 
   -- decode refuses by n exactly when the table says n; and it then leaves the window as it was, and no ask open
-  pub decode_exactly : (n : ℕ) → Iff ((decode d protocol key guard).answer ≡ decoding.Refused n) (DecodeSays d key.given guard n)
+  pub decode_exactly : (n : ℕ) → Iff ((decode d protocol key guard).answer ≡ decoding.Refused n) (DecodeSays d (is_some key) guard n)
   decode_exactly n = (settle n verdict, λ s. ap (λ (x : Decoded). x.answer) (says_given n s))
 
   pub decode_keeps : (n : ℕ) → (decode d protocol key guard).answer ≡ decoding.Refused n → decode d protocol key guard ≡ ended (decoding.Refused n) guard
@@ -223,7 +251,7 @@ module _ (at n len room : ℕ) where
 
 -- ---- the host's answer to an ask to open
 
-module _ (kind : PacketType) (sequence start len : ℕ) (d : List ℕ) (guard : Guard) (granted : Bool) where
+module _ (kind : PacketType) (sequence start len : ℕ) (d : List ℕ) (guard : Option ReplayProtection) (granted : Bool) where
   -- the body is what the ask's part has but for the tag
   body_length_lem : Lent start 16 len (length d) → length (part d start (len - 16 - start)) ≡ len - 16 - start
   body_length_lem l = let s : length d ≡ len = l.same in let t : start + 16 ≤ len = l.there in length_part d start (len - 16 - start) (omega arith)
@@ -250,19 +278,19 @@ module _ (kind : PacketType) (sequence start len : ℕ) (d : List ℕ) (guard : 
       (λ g. subst says (same_number (simp (u, g) at e)) (opens_8 l g)))
 
   -- an answer is refused by n exactly when the table says n
-  pub open_exactly : (n : ℕ) → Iff ((answer_open (opening.Open kind sequence start len) d guard granted).answer ≡ decoding.Refused n) (OpenSays kind start len (length d) granted n)
+  pub open_exactly : (n : ℕ) → Iff ((answer_open (Some (opening_as kind sequence start len)) d guard granted).answer ≡ decoding.Refused n) (OpenSays kind start len (length d) granted n)
   open_exactly n = (opens_says n, opens_given n)
 
   -- 18 leaves the ask open and the window as it was; a no leaves the window; a yes moves it, whether the body is short or not
-  pub unlike_stays : (Lent start 16 len (length d) → ⊥) → answer_open (opening.Open kind sequence start len) d guard granted ≡ decoded_as (decoding.Refused 18) no_ask (opening.Open kind sequence start len) guard
+  pub unlike_stays : (Lent start 16 len (length d) → ⊥) → answer_open (Some (opening_as kind sequence start len)) d guard granted ≡ decoded_as (decoding.Refused 18) no_ask (Some (opening_as kind sequence start len)) guard
   unfolding answer_opened pick
   unlike_stays f = simp (lent_unlike start 16 len (length d) f)
 
-  pub no_keeps_window : granted ≡ false → (answer_open (opening.Open kind sequence start len) d guard granted).guard ≡ guard
+  pub no_keeps_window : granted ≡ false → (answer_open (Some (opening_as kind sequence start len)) d guard granted).guard ≡ guard
   unfolding answer_opened pick
   no_keeps_window g = by_test (unlike start 16 len (length d)) (λ u. simp (u, g)) (λ u. simp (u, g))
 
-  pub yes_moves_window : granted ≡ true → Lent start 16 len (length d) → (answer_open (opening.Open kind sequence start len) d guard granted).guard ≡ guard_accepts kind guard sequence
+  pub yes_moves_window : granted ≡ true → Lent start 16 len (length d) → (answer_open (Some (opening_as kind sequence start len)) d guard granted).guard ≡ guard_accepts kind guard sequence
   unfolding answer_opened pick
   yes_moves_window g l = simp (lent_like start 16 len (length d) l, g)
 
@@ -305,10 +333,10 @@ says_some (encodes_3 r k) z = omega arith
 says_some (encodes_14 m h) z = omega arith
 says_some (encodes_9 m f h) z = omega arith
 
-module _ (out : List ℕ) (packet : Packet) (bytes : List ℕ) (protocol : ℕ) (key : PrivateKey) (sequence : ℕ) where
+module _ (out : List ℕ) (packet : Packet) (bytes : List ℕ) (protocol : ℕ) (key : Option (List ℕ)) (sequence : ℕ) where
   -- the number that refuses, if any
   number : ℕ
-  number = unencodable (length out) (kind_of packet) (length bytes) key.given sequence
+  number = unencodable (length out) (kind_of packet) (length bytes) (is_some key) sequence
 
   refused_by_lem : number ≢ 0 → encode out packet bytes protocol key sequence ≡ done (refused_by number) out
   unfolding encode pick number
@@ -322,12 +350,12 @@ module _ (out : List ℕ) (packet : Packet) (bytes : List ℕ) (protocol : ℕ) 
       (λ u. let m : number ≡ n = same_refusal (simp u at e) in (m, λ z. eqb-false number 0 u (m ∙ z)))
 
   -- encode refuses by n exactly when the table says n
-  pub encode_exactly : (n : ℕ) → Iff ((encode out packet bytes protocol key sequence).encoded.answer ≡ encoding.Refused n) (EncodeSays (length out) (kind_of packet) (length bytes) key.given sequence n)
+  pub encode_exactly : (n : ℕ) → Iff ((encode out packet bytes protocol key sequence).encoded.answer ≡ encoding.Refused n) (EncodeSays (length out) (kind_of packet) (length bytes) (is_some key) sequence n)
   unfolding number
   encode_exactly n = (
-    (λ e. let m = says_number n e in encodes_says (length out) (kind_of packet) (length bytes) key.given sequence n m.1 m.0),
+    (λ e. let m = says_number n e in encodes_says (length out) (kind_of packet) (length bytes) (is_some key) sequence n m.1 m.0),
     (λ s.
-        let m : number ≡ n = encodes_given (length out) (kind_of packet) (length bytes) key.given sequence n s in
+        let m : number ≡ n = encodes_given (length out) (kind_of packet) (length bytes) (is_some key) sequence n s in
         let z : n ≢ 0 = says_some s in
         ap (λ (x : Done). x.encoded.answer) (refused_by_lem (λ e. z (sym m ∙ e))) ∙ ap encoding.Refused m),
   )
@@ -355,11 +383,11 @@ module _ (end len : ℕ) (room : ℕ) (granted : Bool) where
       (λ g. absurd (not_length (simp (u, g) at e)))
       (λ g. subst says (same_refusal (simp (u, g) at e)) (seals_24 (like_lent end 0 len room u) g)))
 
-  seal_keeps : (Lent end 0 len room → ⊥) → answer_seal (sealing.Open end len) room granted ≡ encoded_as (encoding.Refused 18) no_ask (sealing.Open end len)
+  seal_keeps : (Lent end 0 len room → ⊥) → answer_seal (open_at end len) room granted ≡ encoded_as (encoding.Refused 18) no_ask (open_at end len)
   unfolding answer_seal_open pick
   seal_keeps f = simp (lent_unlike end 0 len room f)
 
-  pub seal_exactly : (n : ℕ) → Iff ((answer_seal (sealing.Open end len) room granted).answer ≡ encoding.Refused n) (SealSays end len room granted n)
+  pub seal_exactly : (n : ℕ) → Iff ((answer_seal (open_at end len) room granted).answer ≡ encoding.Refused n) (SealSays end len room granted n)
   seal_exactly n = (seals_says n, seals_given n)
 
 -- ---- the challenge token
@@ -403,7 +431,7 @@ module _ (at len : ℕ) (src : List ℕ) (granted : Bool) where
       (λ g. absurd (not_proved (simp (u, g) at e)))
       (λ g. subst says (same_proof (simp (u, g) at e)) (proves_8 (like_lent at 300 len (length src) u) g)))
 
-  proves_keeps : (Lent at 300 len (length src) → ⊥) → answer_proof at len src granted ≡ unproved 18 (proof.Open at len)
+  proves_keeps : (Lent at 300 len (length src) → ⊥) → answer_proof at len src granted ≡ unproved 18 (Some (proof_as at len))
   unfolding answer_proof pick
   proves_keeps f = simp (lent_unlike at 300 len (length src) f)
 

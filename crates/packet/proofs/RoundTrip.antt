@@ -5,6 +5,7 @@ use Prim.Native.Nat.{ℕ, ◌+◌, ◌-◌, ◌%◌, ◌^◌, ◌≤◌, ◌<◌
 use native.Mathlib.Nat.{add-zero}
 use native.Mathlib.Omega.{arith}
 use mathlib.Core.List.{List, ◌∷◌, ◌++◌}
+use Rattle.std.specs.Prelude.{Option, Some, None, is_some, Result, Ok}
 use lib.ListN.{length, take, length-append}
 use lib.Seq.{take_at}
 use lib.Dec.{eqb}
@@ -22,24 +23,20 @@ use Rattle.bodies.specs.declared.PacketType.{PacketType}
 use Rattle.bodies.specs.declared.PacketType.TheVariants as kind
 use Rattle.bodies.specs.declared.Packet.{Packet}
 use Rattle.bodies.specs.declared.Packet.TheVariants.{ConnectionRequest}
-use Rattle.bodies.specs.declared.Body.TheVariants.{Whole}
+use Rattle.replay_protection.specs.declared.ReplayProtection.{ReplayProtection}
 use Rattle.bodies.specs.Kinds.{number_of, type_of, is_request}
 use Rattle.bodies.specs.Bodies.{kind_of, wants, body_length, Ranged, body, beside, read_body}
 use Rattle.bodies.proofs.Back.{length_body, type_reads_back, body_reads_back, beside_reads_back}
-use Rattle.decode.specs.declared.Guard.{Guard}
 use Rattle.asks.specs.declared.Ask.{Ask}
-use Rattle.asks.specs.declared.PrivateKey.{PrivateKey}
 use Rattle.asks.specs.declared.Work.TheVariants as work
+use Rattle.decode.specs.declared.Start.{Start}
 use Rattle.decode.specs.declared.Decoding.TheVariants as decoding
-use Rattle.decode.specs.declared.Opening.TheVariants as opening
-use Rattle.decode.specs.declared.Kind.TheVariants as kindly
-use Rattle.decode.specs.declared.Start.TheVariants as starting
-use Rattle.decode.specs.Decodes.{decoded_as, ended, typed, type_at, count_of, sequence_of, start_at, guard_refusal, guard_accepts, opened, read_opened, decode_at, by_start, decode_sealed, decode_of, by_kind, decode, answer_opened, answer_open}
-use Rattle.asks.specs.Asks.{no_ask, packet_ask}
+use Rattle.decode.specs.Decodes.{decoded_as, ended, opening_as, start_as, type_at, count_of, sequence_of, start_at, guard_refusal, guard_accepts, opened, read_opened, decode_at, by_start, decode_sealed, decode_of, by_kind, decode, answer_opened, answer_open}
+use Rattle.asks.specs.Asks.{no_ask, packet_ask, key_bytes}
 use Rattle.encode.specs.declared.Encoding.TheVariants as encoding
-use Rattle.encode.specs.declared.Sealing.TheVariants as sealing
-use Rattle.encode.specs.Encodes.{Done, done, encoded_as, shown, tag_places, need, unencodable, written_as, encode}
+use Rattle.encode.specs.Encodes.{Done, done, encoded_as, open_at, shown, tag_places, need, unencodable, written_as, encode}
 use Rattle.packet.specs.Hosts.{Host, sent, ReadBack}
+use Rattle.decode.proofs.Ways.{sealed_keyed}
 use Rattle.encode.proofs.Ways.{lacks_nothing, encodable}
 
 -- ---- a datagram: a head of a type and a sequence, and what follows it
@@ -53,13 +50,16 @@ number_below kind.KeepAlive = omega arith
 number_below kind.Payload = omega arith
 number_below kind.Disconnect = omega arith
 
+abbrev started : ℕ → ℕ → Result Start ℕ
+started sequence start = Ok (start_as sequence start)
+
 module _ (k : PacketType) (sequence : ℕ) (rest : List ℕ) where
-  reads_type : 18 ≤ length (head_bytes (number_of k) sequence ++ rest) → type_at (head_bytes (number_of k) sequence ++ rest) ≡ kindly.Of k
+  reads_type : 18 ≤ length (head_bytes (number_of k) sequence ++ rest) → type_at (head_bytes (number_of k) sequence ++ rest) ≡ Ok k
   unfolding type_at pick
   reads_type long =
       let b : ℕ = prefix_byte (number_of k) (fewest sequence) in
       let n : b % 16 ≡ number_of k = omega (arith, number_below k) in
-      simp (le-ltb (length (head_bytes (number_of k) sequence ++ rest)) 18 long) (ap typed (ap type_of n ∙ type_reads_back k))
+      simp (le-ltb (length (head_bytes (number_of k) sequence ++ rest)) 18 long) (ap type_of n ∙ type_reads_back k)
 
   reads_count : count_of (head_bytes (number_of k) sequence ++ rest) ≡ fewest sequence
   reads_count = omega arith
@@ -72,11 +72,11 @@ module _ (k : PacketType) (sequence : ℕ) (rest : List ℕ) where
       ∙ ap of_le (take_at (to_le f sequence) rest f (length_to_le f sequence))
       ∙ of_le_to_le f sequence (fewest_means sequence h).holds
 
-  reads_start : sequence < 256 ^ 8 → start_at (head_bytes (number_of k) sequence ++ rest) ≡ starting.At sequence (1 + fewest sequence)
+  reads_start : sequence < 256 ^ 8 → start_at (head_bytes (number_of k) sequence ++ rest) ≡ Ok (start_as sequence (1 + fewest sequence))
   unfolding start_at pick
   reads_start h =
       let d : List ℕ = head_bytes (number_of k) sequence ++ rest in
-      simp (le-ltb 8 (count_of d) (omega (arith, reads_count, fewest_le sequence h))) (ap₂ starting.At (reads_sequence h) (ap (λ (n : ℕ). 1 + n) reads_count))
+      simp (le-ltb 8 (count_of d) (omega (arith, reads_count, fewest_le sequence h))) (ap₂ started (reads_sequence h) (ap (λ (n : ℕ). 1 + n) reads_count))
 
   length_datagram : length (head_bytes (number_of k) sequence ++ rest) ≡ 1 + fewest sequence + length rest
   length_datagram =
@@ -101,24 +101,24 @@ module _ (k : PacketType) (sequence : ℕ) (rest : List ℕ) where
       ap (part (splice d at text) at) l ∙ part_splice_same d at text (omega arith)
 
   -- so it is asked for, with the rest as the sealed part
-  reads_asks : (protocol : ℕ) (key : PrivateKey) (guard : Guard) → 18 ≤ length (head_bytes (number_of k) sequence ++ rest) → sequence < 256 ^ 8 → 16 ≤ length rest
-      → is_request k ≡ false → key.given ≡ true → guard_refusal k guard sequence ≡ 0
+  reads_asks : (protocol : ℕ) (key : Option (List ℕ)) (guard : Option ReplayProtection) → 18 ≤ length (head_bytes (number_of k) sequence ++ rest) → sequence < 256 ^ 8 → 16 ≤ length rest
+      → is_request k ≡ false → (is_some key) ≡ true → guard_refusal k guard sequence ≡ 0
       → decode (head_bytes (number_of k) sequence ++ rest) protocol key guard
       ≡ decoded_as decoding.Asked
-      (packet_ask work.Open key.bytes sequence (prefix_byte (number_of k) (fewest sequence)) protocol (1 + fewest sequence) (length (head_bytes (number_of k) sequence ++ rest)))
-      (opening.Open k sequence (1 + fewest sequence) (length (head_bytes (number_of k) sequence ++ rest))) guard
+      (packet_ask work.Open (key_bytes key) sequence (prefix_byte (number_of k) (fewest sequence)) protocol (1 + fewest sequence) (length (head_bytes (number_of k) sequence ++ rest)))
+      (Some (opening_as k sequence (1 + fewest sequence) (length (head_bytes (number_of k) sequence ++ rest)))) guard
   unfolding decode decode_of decode_sealed decode_at pick
   reads_asks protocol key guard long below tag request keyed passes =
       let d : List ℕ = head_bytes (number_of k) sequence ++ rest in
       let n : length d ≡ 1 + fewest sequence + length rest = length_datagram in
       ap (by_kind d protocol key guard) (reads_type long)
-      ∙ simp (request, keyed)
-      (ap (by_start d k protocol key.bytes guard) (reads_start below)
+      ∙ simp request (sealed_keyed d k protocol key guard keyed)
+      ∙ (ap (by_start d k protocol (key_bytes key) guard) (reads_start below)
       ∙ simp (eq-eqb (guard_refusal k guard sequence) 0 passes, le-ltb (length d) (1 + fewest sequence + 16) (omega arith)))
 
   -- and after a yes that gave text, the body is the text, whatever stood there
-  reads_text : (guard : Guard) (text : List ℕ) (packet : Packet) → length rest ≡ length text + 16 → read_body k text ≡ Whole packet
-      → answer_open (opening.Open k sequence (1 + fewest sequence) (length (head_bytes (number_of k) sequence ++ rest))) (splice (head_bytes (number_of k) sequence ++ rest) (1 + fewest sequence) text) guard true
+  reads_text : (guard : Option ReplayProtection) (text : List ℕ) (packet : Packet) → length rest ≡ length text + 16 → read_body k text ≡ Ok packet
+      → answer_open (Some (opening_as k sequence (1 + fewest sequence) (length (head_bytes (number_of k) sequence ++ rest)))) (splice (head_bytes (number_of k) sequence ++ rest) (1 + fewest sequence) text) guard true
       ≡ ended (decoding.Read (opened sequence packet (1 + fewest sequence) (length (head_bytes (number_of k) sequence ++ rest) - 16))) (guard_accepts k guard sequence)
   unfolding answer_opened read_opened pick
   reads_text guard text packet m whole =
@@ -179,38 +179,38 @@ keyed_key : (b : Bool) → not b && true ≡ false → b ≡ true
 keyed_key true e = refl
 keyed_key false e = sym e
 
-module _ (h : Host) (out : List ℕ) (packet : Packet) (bytes : List ℕ) (protocol : ℕ) (key : PrivateKey) (sequence : ℕ)
+module _ (h : Host) (out : List ℕ) (packet : Packet) (bytes : List ℕ) (protocol : ℕ) (key : Option (List ℕ)) (sequence : ℕ)
     (asked : (encode out packet bytes protocol key sequence).encoded.answer ≡ encoding.Asked) where
   -- an encode that asks has a sealed packet, a key, the bytes and the room
-  pub asked_means : (is_request (kind_of packet) ≡ false) × ((key.given ≡ true) × ((need (kind_of packet) (length bytes) sequence ≤ length out) × (wants (kind_of packet) ≤ length bytes)))
+  pub asked_means : (is_request (kind_of packet) ≡ false) × (((is_some key) ≡ true) × ((need (kind_of packet) (length bytes) sequence ≤ length out) × (wants (kind_of packet) ≤ length bytes)))
   unfolding encode written_as pick
   asked_means =
       let kind : PacketType = kind_of packet in
-      let u : ℕ = unencodable (length out) kind (length bytes) key.given sequence in
+      let u : ℕ = unencodable (length out) kind (length bytes) (is_some key) sequence in
       by_test (eqb u 0)
       (λ e.
-      let (keyed, room) = encodable (length out) kind (length bytes) key.given sequence (eqb-true u 0 e) in
+      let (keyed, room) = encodable (length out) kind (length bytes) (is_some key) sequence (eqb-true u 0 e) in
       by_test (is_request kind)
       (λ f. absurd (clash (simp (e, f) at asked)))
-      (λ f. (f, (keyed_key key.given (simp f at keyed), room))))
+      (λ f. (f, (keyed_key (is_some key) (simp f at keyed), room))))
       (λ e. absurd (clash' (simp e at asked)))
 
   -- the seal of its body: under the key, the sequence as nonce, with version, protocol and prefix byte
   seal_of : List ℕ
-  seal_of = h.seal key.bytes (packet_nonce sequence) (take 22 (additional_data (prefix_byte (number_of (kind_of packet)) (fewest sequence)) protocol)) (body packet bytes)
+  seal_of = h.seal (key_bytes key) (packet_nonce sequence) (take 22 (additional_data (prefix_byte (number_of (kind_of packet)) (fewest sequence)) protocol)) (body packet bytes)
 
   -- what it comes to, with the figures of a sealed packet
   encode_asks : encode out packet bytes protocol key sequence
       ≡ done (encoded_as encoding.Asked
-      (packet_ask work.Seal key.bytes sequence (prefix_byte (number_of (kind_of packet)) (fewest sequence)) protocol (1 + fewest sequence) (1 + fewest sequence + body_length (kind_of packet) (length bytes) + 16))
-      (sealing.Open (1 + fewest sequence + body_length (kind_of packet) (length bytes) + 16) (length out)))
+      (packet_ask work.Seal (key_bytes key) sequence (prefix_byte (number_of (kind_of packet)) (fewest sequence)) protocol (1 + fewest sequence) (1 + fewest sequence + body_length (kind_of packet) (length bytes) + 16))
+      (open_at (1 + fewest sequence + body_length (kind_of packet) (length bytes) + 16) (length out)))
       (splice out 0 (head_bytes (number_of (kind_of packet)) sequence ++ body packet bytes))
   unfolding encode written_as shown tag_places pick
   encode_asks =
       let kind : PacketType = kind_of packet in
       let (request, rest) = asked_means in
-      let keyed : not key.given && not (is_request kind) ≡ false = simp rest.0 in
-      simp (eq-eqb (unencodable (length out) kind (length bytes) key.given sequence) 0 (sym (lacks_nothing (length out) kind (length bytes) key.given sequence keyed rest.1.0 rest.1.1)), request)
+      let keyed : not (is_some key) && not (is_request kind) ≡ false = simp rest.0 in
+      simp (eq-eqb (unencodable (length out) kind (length bytes) (is_some key) sequence) 0 (sym (lacks_nothing (length out) kind (length bytes) (is_some key) sequence keyed rest.1.0 rest.1.1)), request)
 
   -- the datagram is the head and that seal
   sent_is : sent h (encode out packet bytes protocol key sequence) ≡ head_bytes (number_of (kind_of packet)) sequence ++ seal_of
@@ -222,7 +222,7 @@ module _ (h : Host) (out : List ℕ) (packet : Packet) (bytes : List ℕ) (proto
       let head : List ℕ = head_bytes (number_of kind) sequence in
       let start : ℕ = 1 + fewest sequence in
       let end : ℕ = start + body_length kind (length bytes) + 16 in
-      let f : List ℕ → List ℕ = h.seal key.bytes (packet_nonce sequence) (take 22 (additional_data (prefix_byte (number_of kind) (fewest sequence)) protocol)) in
+      let f : List ℕ → List ℕ = h.seal (key_bytes key) (packet_nonce sequence) (take 22 (additional_data (prefix_byte (number_of kind) (fewest sequence)) protocol)) in
       let a : length head ≡ start = omega (arith, length_to_le (fewest sequence) sequence) in
       let b : length text ≡ body_length kind (length bytes) = length_body packet bytes room.1 in
       let c : need kind (length bytes) sequence ≡ end = sealed_need kind (length bytes) sequence asked_means.0 in
@@ -244,7 +244,7 @@ module _ (h : Host) (out : List ℕ) (packet : Packet) (bytes : List ℕ) (proto
       ∙ (let t : length seal_of ≡ length (body packet bytes) + 16 = length_seal in omega arith)
 
   -- for every type and sequence: a datagram of 18 bytes or more whose sequence the window does not refuse is read back
-  pub round_trip : (guard : Guard) → Ranged packet → sequence < 256 ^ 8 → guard_refusal (kind_of packet) guard sequence ≡ 0
+  pub round_trip : (guard : Option ReplayProtection) → Ranged packet → sequence < 256 ^ 8 → guard_refusal (kind_of packet) guard sequence ≡ 0
       → 18 ≤ length (sent h (encode out packet bytes protocol key sequence))
       → ReadBack h packet bytes protocol key sequence guard (encode out packet bytes protocol key sequence).encoded.ask (sent h (encode out packet bytes protocol key sequence))
   unfolding seal_of
@@ -266,8 +266,8 @@ module _ (h : Host) (out : List ℕ) (packet : Packet) (bytes : List ℕ) (proto
       (record {
         asks =
             reads_asks kind sequence seal_of protocol key guard (rw sent_is at long) below (omega arith) request rest.0 passes
-            ∙ ap (λ (i : ℕ). decoded_as decoding.Asked (packet_ask work.Open key.bytes sequence p protocol start i) (opening.Open kind sequence start (length d)) guard) ends;
-        agrees = ap (h.opens key.bytes (packet_nonce sequence) (take 22 (additional_data p protocol))) here ∙ h.honest _ _ _ text;
+            ∙ ap (λ (i : ℕ). decoded_as decoding.Asked (packet_ask work.Open (key_bytes key) sequence p protocol start i) (Some (opening_as kind sequence start (length d))) guard) ends;
+        agrees = ap (h.opens (key_bytes key) (packet_nonce sequence) (take 22 (additional_data p protocol))) here ∙ h.honest _ _ _ text;
         reads = reads_text kind sequence seal_of guard text packet t (body_reads_back packet bytes ranged rest.1.1);
         holds = ap (beside kind) (text_there kind sequence seal_of text t) ∙ beside_reads_back packet bytes rest.1.1;
       }))
@@ -284,7 +284,7 @@ module _ (h : Host) (out : List ℕ) (packet : Packet) (bytes : List ℕ) (proto
       )
 
 -- a datagram under 18 bytes is refused as 1, whatever it holds
-pub short_refused : (d : List ℕ) (protocol : ℕ) (key : PrivateKey) (guard : Guard) → length d < 18 → decode d protocol key guard ≡ ended (decoding.Refused 1) guard
+pub short_refused : (d : List ℕ) (protocol : ℕ) (key : Option (List ℕ)) (guard : Option ReplayProtection) → length d < 18 → decode d protocol key guard ≡ ended (decoding.Refused 1) guard
 unfolding decode type_at pick
 short_refused d protocol key guard h = simp (lt-ltb (length d) 18 h)
 
@@ -301,30 +301,30 @@ module _ (protocol expiry : ℕ) (bytes : List ℕ) (enough : 1061 ≤ length by
   unfolding requested
   length_requested = omega (arith, length_body (ConnectionRequest protocol expiry) bytes enough)
 
-  request_encodes : (out : List ℕ) (id sequence : ℕ) (key : PrivateKey) → 1078 ≤ length out
-      → encode out (ConnectionRequest protocol expiry) bytes id key sequence ≡ done (encoded_as (encoding.Length 1078) no_ask sealing.Closed) (splice out 0 (0 ∷ requested))
+  request_encodes : (out : List ℕ) (id sequence : ℕ) (key : Option (List ℕ)) → 1078 ≤ length out
+      → encode out (ConnectionRequest protocol expiry) bytes id key sequence ≡ done (encoded_as (encoding.Length 1078) no_ask None) (splice out 0 (0 ∷ requested))
   unfolding encode written_as shown tag_places pick requested to_le
   request_encodes out id sequence key room =
       let n : need kind.ConnectionRequest (length bytes) sequence ≡ 1078 = omega (arith, fewest_zero) in
-      let e : unencodable (length out) kind.ConnectionRequest (length bytes) key.given sequence ≡ 0 =
-      sym (lacks_nothing (length out) kind.ConnectionRequest (length bytes) key.given sequence (never_lacks key.given) (omega arith) enough) in
-      simp (eq-eqb (unencodable (length out) kind.ConnectionRequest (length bytes) key.given sequence) 0 e, fewest_zero)
+      let e : unencodable (length out) kind.ConnectionRequest (length bytes) (is_some key) sequence ≡ 0 =
+      sym (lacks_nothing (length out) kind.ConnectionRequest (length bytes) (is_some key) sequence (never_lacks (is_some key)) (omega arith) enough) in
+      simp (eq-eqb (unencodable (length out) kind.ConnectionRequest (length bytes) (is_some key) sequence) 0 e, fewest_zero)
 
-  request_decodes : (id : ℕ) (key : PrivateKey) (guard : Guard) → Ranged (ConnectionRequest protocol expiry)
+  request_decodes : (id : ℕ) (key : Option (List ℕ)) (guard : Option ReplayProtection) → Ranged (ConnectionRequest protocol expiry)
       → decode (0 ∷ requested) id key guard ≡ ended (decoding.Read (opened 0 (ConnectionRequest protocol expiry) 1 1078)) guard
   unfolding decode decode_of type_at read_opened pick type_of requested
   request_decodes id key guard ranged =
       let n : length (0 ∷ requested) ≡ 1078 = length_requested in
       let m : length requested ≡ 1077 = omega arith in
-      let w : read_body kind.ConnectionRequest (part (0 ∷ requested) 1 1077) ≡ Whole (ConnectionRequest protocol expiry) =
+      let w : read_body kind.ConnectionRequest (part (0 ∷ requested) 1 1077) ≡ Ok (ConnectionRequest protocol expiry) =
       ap (read_body kind.ConnectionRequest) (part_whole requested 1077 m) ∙ body_reads_back (ConnectionRequest protocol expiry) bytes ranged enough in
       simp (n, w)
 
 -- a request, with a key or without one, under any sequence: 1,078 bytes and no ask, and they are read back as the same request
-pub request_trip : (out : List ℕ) (protocol expiry : ℕ) (bytes : List ℕ) (id sequence : ℕ) (key key' : PrivateKey) (guard : Guard) → 1078 ≤ length out → 1061 ≤ length bytes
+pub request_trip : (out : List ℕ) (protocol expiry : ℕ) (bytes : List ℕ) (id sequence : ℕ) (key key' : Option (List ℕ)) (guard : Option ReplayProtection) → 1078 ≤ length out → 1061 ≤ length bytes
     → Ranged (ConnectionRequest protocol expiry) →
     let d : List ℕ = part (encode out (ConnectionRequest protocol expiry) bytes id key sequence).out 0 1078 in
-    ((encode out (ConnectionRequest protocol expiry) bytes id key sequence).encoded ≡ encoded_as (encoding.Length 1078) no_ask sealing.Closed)
+    ((encode out (ConnectionRequest protocol expiry) bytes id key sequence).encoded ≡ encoded_as (encoding.Length 1078) no_ask None)
     × ((decode d id key' guard ≡ ended (decoding.Read (opened 0 (ConnectionRequest protocol expiry) 1 1078)) guard)
     × (beside kind.ConnectionRequest (part d 1 1077) ≡ part bytes 0 1061))
 unfolding requested

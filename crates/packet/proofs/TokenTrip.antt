@@ -4,6 +4,7 @@ use mathlib.Core.Bool.{true}
 use Prim.Native.Nat.{ℕ, ◌+◌, ◌-◌, ◌^◌, ◌≤◌, ◌<◌}
 use native.Mathlib.Omega.{arith}
 use mathlib.Core.List.{List}
+use Rattle.std.specs.Prelude.{Some, None}
 use lib.ListN.{length, take}
 use borrow.Author.Tests.{le-ltb, eq-eqb}
 use Rattle.serialize.specs.Choice.{pick}
@@ -16,18 +17,16 @@ use Rattle.bodies.proofs.Back.{length_clear, token_reads_back}
 use Rattle.asks.specs.declared.Work.TheVariants as work
 use Rattle.asks.specs.Asks.{no_ask, token_ask}
 use Rattle.encode.specs.declared.Encoding.TheVariants as encoding
-use Rattle.encode.specs.declared.Sealing.TheVariants as sealing
-use Rattle.encode.specs.Encodes.{Done, done, encoded_as}
+use Rattle.encode.specs.Encodes.{Done, done, encoded_as, open_at}
 use Rattle.encode.specs.Generates.{generate_challenge}
 use Rattle.decode.specs.declared.Proving.TheVariants.{Asked, Proved}
-use Rattle.decode.specs.declared.ProofOpening.TheVariants.{Closed, Open}
-use Rattle.decode.specs.Challenges.{challenged_as, no_token, decode_challenge, answer_proof, answer_challenge}
+use Rattle.decode.specs.Challenges.{challenged_as, proof_as, no_token, decode_challenge, answer_proof, answer_challenge}
 use Rattle.packet.specs.Hosts.{Host, Yes, sealed_in, said_of, opened_in}
 
 module _ (h : Host) (out : List ℕ) (at : ℕ) (t : ChallengeToken) (sequence : ℕ) (key : List ℕ)
     (fits : at + 300 ≤ length out) (id : t.client_id < 256 ^ 8) (user : length t.user_data ≡ 256) where
   generates : generate_challenge out at t sequence key
-      ≡ done (encoded_as encoding.Asked (token_ask work.Seal key sequence at (at + 300)) (sealing.Open (at + 300) (length out))) (splice out at (token_clear t))
+      ≡ done (encoded_as encoding.Asked (token_ask work.Seal key sequence at (at + 300)) (open_at (at + 300) (length out))) (splice out at (token_clear t))
   unfolding generate_challenge pick
   generates = simp (le-ltb (length out) (at + 300) fits)
 
@@ -59,7 +58,7 @@ module _ (h : Host) (out : List ℕ) (at : ℕ) (t : ChallengeToken) (sequence :
   length_buffer = ap length buffer_is ∙ length_splice out at sealed (omega (arith, length_sealed))
 
   -- decode asks to open it, and keeps nothing else
-  pub token_asks : decode_challenge (length buffer) at sequence key ≡ challenged_as Asked (token_ask work.Open key sequence at (at + 300)) (Open at (length buffer)) no_token
+  pub token_asks : decode_challenge (length buffer) at sequence key ≡ challenged_as Asked (token_ask work.Open key sequence at (at + 300)) (Some (proof_as at (length buffer))) no_token
   unfolding decode_challenge pick
   token_asks = simp (le-ltb (length buffer) (at + 300) (omega (arith, length_buffer)))
 
@@ -74,11 +73,11 @@ module _ (h : Host) (out : List ℕ) (at : ℕ) (t : ChallengeToken) (sequence :
       ∙ h.honest _ _ _ (token_clear t)
 
   -- and its answer gives the token
-  pub token_trip : answer_challenge (Open at (length buffer)) (opened_in (token_ask work.Open key sequence at (at + 300)) buffer (token_clear t)) true ≡ challenged_as Proved no_ask Closed t
+  pub token_trip : answer_challenge (Some (proof_as at (length buffer))) (opened_in (token_ask work.Open key sequence at (at + 300)) buffer (token_clear t)) true ≡ challenged_as Proved no_ask None t
   unfolding answer_proof pick
   token_trip =
       let n : length buffer ≡ length out = length_buffer in
       let m : length (token_clear t) ≡ 284 = length_clear t user in
       let l : length (splice buffer at (token_clear t)) ≡ length buffer = length_splice buffer at (token_clear t) (omega arith) in
       simp (eq-eqb (length (splice buffer at (token_clear t))) (length buffer) l, le-ltb (length buffer) (at + 300) (omega arith))
-      (ap (challenged_as Proved no_ask Closed) (token_reads_back buffer at t (omega arith) id user))
+      (ap (challenged_as Proved no_ask None) (token_reads_back buffer at t (omega arith) id user))

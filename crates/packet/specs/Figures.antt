@@ -1,32 +1,30 @@
 -- The figures that document 01, "Figures on both sides", marks with a star, in its order, over the definitions.
-use Rattle.std.specs.Prelude.{◌≡◌, ℕ, ◌-◌, ◌^◌, true, List, [], ◌∷◌}
+use Rattle.std.specs.Prelude.{◌≡◌, ℕ, ◌-◌, ◌^◌, true, List, [], ◌∷◌, Option, Some}
 use Rattle.serialize.specs.Runs.{zeros}
 use Rattle.prefix.specs.Head.{fewest, prefix_byte, head_bytes}
 use Rattle.prefix.specs.Sealed.{additional_data}
+use Rattle.replay_protection.specs.declared.ReplayProtection.{ReplayProtection}
 use Rattle.replay_protection.specs.Replay.{fresh, refusal}
 use Rattle.replay_protection.specs.Arrivals.{run}
 use Rattle.replay_protection.specs.Ours.{width, protection}
 use Rattle.bodies.specs.declared.PacketType.TheVariants as kind
 use Rattle.bodies.specs.declared.Packet.TheVariants.{KeepAlive, Disconnect}
 use Rattle.bodies.specs.Bodies.{body}
-use Rattle.asks.specs.declared.PrivateKey.{PrivateKey}
 use Rattle.encode.specs.declared.Encoding.TheVariants as encoding
 use Rattle.encode.specs.Encodes.{Done, encode}
-use Rattle.decode.specs.declared.Guard.{Guard}
 use Rattle.decode.specs.declared.Decoding.TheVariants.{Refused, Read}
-use Rattle.decode.specs.declared.Opening.TheVariants.{Open}
-use Rattle.decode.specs.Decodes.{guarding, opened, decode, answer_open}
+use Rattle.decode.specs.Decodes.{opening_as, opened, decode, answer_open}
 
 -- what refuses s after the arrivals, the newest first; 0 where it is accepted
 abbrev pub after : List ℕ → ℕ → ℕ
 after arrivals s = refusal width (run width arrivals) s
 
 -- a key, and a fresh window
-abbrev pub some_key : PrivateKey
-some_key = record { given = true; bytes = zeros 32 }
+abbrev pub some_key : Option (List ℕ)
+some_key = Some (zeros 32)
 
-abbrev pub fresh_guard : Guard
-fresh_guard = guarding true (protection (fresh width))
+abbrev pub fresh_guard : Option ReplayProtection
+fresh_guard = Some (protection (fresh width))
 
 -- a disconnect for protocol 7 under a sequence, into 18 bytes
 abbrev pub disconnect : ℕ → Done
@@ -55,8 +53,8 @@ pub record Figures : Type 0 where
   -- at 1 it is 18
   pub disconnect_1 : ((disconnect 1).encoded.answer ≡ encoding.Asked) × ((disconnect 1).encoded.ask.end ≡ 18)
   -- and read: asked for, and after a yes a disconnect under sequence 1
-  pub disconnect_1_asked : (decode (0x16 ∷ 0x01 ∷ zeros 16) 7 some_key fresh_guard).opening ≡ Open kind.Disconnect 1 2 18
-  pub disconnect_1_read : (answer_open (Open kind.Disconnect 1 2 18) (0x16 ∷ 0x01 ∷ zeros 16) fresh_guard true).answer ≡ Read (opened 1 Disconnect 2 2)
+  pub disconnect_1_asked : (decode (0x16 ∷ 0x01 ∷ zeros 16) 7 some_key fresh_guard).opening ≡ Some (opening_as kind.Disconnect 1 2 18)
+  pub disconnect_1_read : (answer_open (Some (opening_as kind.Disconnect 1 2 18)) (0x16 ∷ 0x01 ∷ zeros 16) fresh_guard true).answer ≡ Read (opened 1 Disconnect 2 2)
   -- after 300: 44 refused
   pub after_300_refused : after (300 ∷ []) 44 ≡ 6
   -- 45 accepted

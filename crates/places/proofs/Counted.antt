@@ -1,24 +1,25 @@
 -- A count goes up by one at each used mark that it passes: so it is the number of used marks, it changes by one with one mark, and it is
 -- n exactly where none of n places is free, and 0 where all are.
+use Rattle.std.specs.Prelude.{None, not, cond, take, count_by}
+use Rattle.std.proofs.lemmas.List.Sums.{sum_by_more}
 use mathlib.Core.Path.{◌≡◌, refl, sym, ap, ap₂, ◌∙◌}
 use mathlib.Core.Logic.{◌↔◌, ⊎_elim}
-use mathlib.Core.Bool.{Bool}
+use mathlib.Core.Bool.{Bool, true, false}
 use Prim.Native.Nat.{ℕ, zero, suc, ◌+◌, ◌≤◌, ◌<◌}
 use native.Mathlib.Nat.{eq-or-lt_of_le}
 use native.Mathlib.Numerals.{add-one}
 use native.Mathlib.Omega.{arith}
 use mathlib.Core.List.{List}
-use lib.ListN.{get_or}
+use lib.ListN.{length, get_or}
 use lib.Dec.{eqb}
 use borrow.Author.Tests.{eq-eqb, ne_eqb, eqb-true, eqb-false}
-use Rattle.serialize.specs.declared.Found.TheVariants.{Nothing}
 use Rattle.serialize.specs.Choice.{pick}
 use Rattle.serialize.proofs.Choice.{by_test}
 use Rattle.places.specs.Finds.{used_count, count_one, find_free}
 use Rattle.places.specs.Keys.{NoneOf}
 use Rattle.places.proofs.Searches.{Free, free_none}
 
--- ---- a loop's start and its turn
+-- ---- none, and one more
 
 pub count_start : (t : List ℕ) → 0 ≡ used_count t 0
 unfolding used_count
@@ -37,6 +38,23 @@ empty_counts m e = ap (λ (b : Bool). pick b 0 1) (eq-eqb m 0 e)
 pub used_counts : (m : ℕ) → (m ≡ 0 → ⊥) → count_one m ≡ 1
 unfolding count_one pick
 used_counts m n = ap (λ (b : Bool). pick b 0 1) (ne_eqb m 0 n)
+
+-- the library's count of the first n words that are not 0
+
+one_by_test : (b : Bool) → cond (not b) 1 0 ≡ pick {A = ℕ} b 0 1
+unfolding pick
+one_by_test true = refl
+one_by_test false = refl
+
+pub count_marks : (t : List ℕ) (n : ℕ) → n ≤ length t → count_by (λ (m : ℕ). not (eqb m 0)) (take n t) ≡ used_count t n
+unfolding used_count count_one
+count_marks t zero h = refl
+count_marks t (suc n) h =
+    let more : ◌≡◌ {A = ℕ} (count_by (λ (m : ℕ). not (eqb m 0)) (take (n + 1) t)) (count_by (λ (m : ℕ). not (eqb m 0)) (take n t) + cond (not (eqb (get_or t n 0) 0)) 1 0) =
+    sum_by_more (λ (m : ℕ). cond (not (eqb m 0)) 1 0) t n 0 h in
+    ap (λ (k : ℕ). count_by (λ (m : ℕ). not (eqb m 0)) (take k t)) (sym (add-one n))
+    ∙ more
+    ∙ ap₂ ◌+◌ (count_marks t n (omega arith)) (one_by_test (eqb (get_or t n 0) 0))
 
 one_at_most : (m : ℕ) → count_one m ≤ 1
 one_at_most m = by_test (eqb m 0) (λ e. omega (arith, empty_counts m (eqb-true m 0 e))) (λ e. omega (arith, used_counts m (eqb-false m 0 e)))
@@ -100,7 +118,7 @@ one_missing t (suc n) m h e =
     (eq-or-lt_of_le l)
 
 -- no place is free exactly where the count is n
-pub full_exactly : (t : List ℕ) (n : ℕ) → (find_free t n ≡ Nothing) ↔ (used_count t n ≡ n)
+pub full_exactly : (t : List ℕ) (n : ℕ) → (find_free t n ≡ None) ↔ (used_count t n ≡ n)
 full_exactly t n = (
   λ e. all_count t n ((free_none t n).0 e),
   λ e. (free_none t n).1 (λ m h f. let l : used_count t n < n = one_missing t n m h f in omega arith),

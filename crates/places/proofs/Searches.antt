@@ -1,5 +1,6 @@
 -- What a search finds is the lowest place that passes its test, by the laws of `first_from`, and a test passes exactly for the key that it
 -- asks for.
+use Rattle.std.specs.Prelude.{Some, None}
 use mathlib.Core.Path.{◌≡◌, refl, sym, ap, ap₂, ◌∙◌}
 use mathlib.Core.Bool.{true≢false, and-eq-true_iff, Bool, true, false, ◌&&◌}
 use mathlib.Core.Logic.{◌↔◌}
@@ -11,7 +12,6 @@ use lib.ListN.{length, get_or}
 use lib.Seq.{ext_get_or}
 use lib.Dec.{eqb}
 use borrow.Author.Tests.{eqb-true, eq-eqb}
-use Rattle.serialize.specs.declared.Found.TheVariants.{At, Nothing}
 use Rattle.serialize.specs.Search.{first_from}
 use Rattle.serialize.proofs.Search.{found_lowest, lowest_found, found_none, none_found}
 use Rattle.serialize.proofs.Lists.{get_or_part, length_part}
@@ -34,7 +34,7 @@ not_holding false h = refl
 -- ---- any search of which the test passes exactly for P
 
 module _ (p : ℕ → Bool) (P : ℕ → Type 0) (n : ℕ) (says : (i : ℕ) → i < n → (p i ≡ true) ↔ P i) where
-  pub search_found : (j : ℕ) → (first_from p 0 n ≡ At j) ↔ LowestOf P n j
+  pub search_found : (j : ℕ) → (first_from p 0 n ≡ Some j) ↔ LowestOf P n j
   search_found j = (
     λ e.
         let w = found_lowest p 0 n j e in
@@ -50,7 +50,7 @@ module _ (p : ℕ → Bool) (P : ℕ → Type 0) (n : ℕ) (says : (i : ℕ) →
         }),
   )
 
-  pub search_none : (first_from p 0 n ≡ Nothing) ↔ NoneOf P n
+  pub search_none : (first_from p 0 n ≡ None) ↔ NoneOf P n
   search_none = (
     λ e m h x. true_false ((says m h).1 x) (found_none p 0 n e m (omega arith) (omega arith)),
     λ f. none_found p 0 n (λ m a h. let b : m < n = omega arith in not_holding (p m) (λ e. f m b ((says m b).0 e))),
@@ -116,24 +116,24 @@ module _ (t : List ℕ) (n : ℕ) (shape : Shaped t n) where
 
   -- ---- what each search finds
 
-  pub address_found : (a : Address) (j : ℕ) → (find_address t n a ≡ At j) ↔ LowestOf (Keyed t n addr (words_of a)) n j
+  pub address_found : (a : Address) (j : ℕ) → (find_address t n a ≡ Some j) ↔ LowestOf (Keyed t n addr (words_of a)) n j
   address_found a j = search_found (has_address t n (first_word a) a.low a.high) (Keyed t n addr (words_of a)) n (address_test a) j
 
-  pub address_none : (a : Address) → (find_address t n a ≡ Nothing) ↔ NoneOf (Keyed t n addr (words_of a)) n
+  pub address_none : (a : Address) → (find_address t n a ≡ None) ↔ NoneOf (Keyed t n addr (words_of a)) n
   address_none a = search_none (has_address t n (first_word a) a.low a.high) (Keyed t n addr (words_of a)) n (address_test a)
 
-  pub id_found : (x j : ℕ) → (find_id t n x ≡ At j) ↔ LowestOf (Keyed t n id (x ∷ [])) n j
+  pub id_found : (x j : ℕ) → (find_id t n x ≡ Some j) ↔ LowestOf (Keyed t n id (x ∷ [])) n j
   id_found x j = search_found (has_id t n x) (Keyed t n id (x ∷ [])) n (id_test x) j
 
-  pub id_none : (x : ℕ) → (find_id t n x ≡ Nothing) ↔ NoneOf (Keyed t n id (x ∷ [])) n
+  pub id_none : (x : ℕ) → (find_id t n x ≡ None) ↔ NoneOf (Keyed t n id (x ∷ [])) n
   id_none x = search_none (has_id t n x) (Keyed t n id (x ∷ [])) n (id_test x)
 
 -- a free place is one whose mark is 0
 abbrev pub Free : List ℕ → ℕ → Type 0
 Free t i = get_or t i 0 ≡ 0
 
-pub free_found : (t : List ℕ) (n j : ℕ) → (find_free t n ≡ At j) ↔ LowestOf (Free t) n j
+pub free_found : (t : List ℕ) (n j : ℕ) → (find_free t n ≡ Some j) ↔ LowestOf (Free t) n j
 free_found t n j = search_found (free_at t) (Free t) n (λ i h. (eqb-true (get_or t i 0) 0, eq-eqb (get_or t i 0) 0)) j
 
-pub free_none : (t : List ℕ) (n : ℕ) → (find_free t n ≡ Nothing) ↔ NoneOf (Free t) n
+pub free_none : (t : List ℕ) (n : ℕ) → (find_free t n ≡ None) ↔ NoneOf (Free t) n
 free_none t n = search_none (free_at t) (Free t) n (λ i h. (eqb-true (get_or t i 0) 0, eq-eqb (get_or t i 0) 0))

@@ -1,25 +1,20 @@
-// The searches: each takes the lowest place, and yields it by `break`.
+// The searches: each takes the lowest place, and is the loop over slots that yields its place by `break` which document 01 names.
 ghost use Rattle.std.specs.Prelude.{◌≡◌, ◌<◌, ◌≤◌};
 ghost use Rattle.places.specs.Layout.{Shaped};
-ghost use Rattle.places.specs.Finds.{has_address, has_id, free_at, find_address, find_id, find_free, used_count, count_one};
+ghost use Rattle.places.specs.Finds.{has_address, has_id, free_at, find_address, find_id, find_free, used_count};
 
 use addresses::Address;
-use serialize::Found;
 
 // Place i is used and has the address, given by its three words. Few places have it, so the mark is looked at last.
 fn has_address(t: &[u64], n: usize, i: usize, first: u64, low: u64, high: u64) -> bool
     requires { Shaped t.now n × (i < n) }
     ensures { result ≡ has_address t.now n first low high i }
 {
-    if addresses::has_words(t, 2 * n + 3 * i, first, low, high) {
-        t[i] != 0
-    } else {
-        false
-    }
+    addresses::has_words(t, 2 * n + 3 * i, first, low, high) && t[i] != 0
 }
 
 // The lowest used place with the address.
-pub fn find_by_address(t: &[u64], n: usize, addr: Address) -> Found
+pub fn find_by_address(t: &[u64], n: usize, addr: Address) -> Option<usize>
     requires { Shaped t.now n }
     ensures { result ≡ find_address t.now n addr }
 {
@@ -29,10 +24,10 @@ pub fn find_by_address(t: &[u64], n: usize, addr: Address) -> Found
     let mut i: usize = 0;
     loop {
         if i >= n {
-            break Found::Nothing;
+            break None;
         }
         if has_address(t, n, i, first, low, high) {
-            break Found::At(i);
+            break Some(i);
         }
         i += 1;
     }
@@ -43,51 +38,41 @@ fn has_id(t: &[u64], n: usize, i: usize, client_id: u64) -> bool
     requires { Shaped t.now n × (i < n) }
     ensures { result ≡ has_id t.now n client_id i }
 {
-    if t[n + i] != client_id {
-        return false;
-    }
-    t[i] != 0
+    t[n + i] == client_id && t[i] != 0
 }
 
 // The lowest used place with the id.
-pub fn find_by_id(t: &[u64], n: usize, client_id: u64) -> Found
+pub fn find_by_id(t: &[u64], n: usize, client_id: u64) -> Option<usize>
     requires { Shaped t.now n }
     ensures { result ≡ find_id t.now n client_id }
 {
     let mut i: usize = 0;
     loop {
         if i >= n {
-            break Found::Nothing;
+            break None;
         }
         if has_id(t, n, i, client_id) {
-            break Found::At(i);
+            break Some(i);
         }
         i += 1;
     }
 }
 
 // The lowest free place.
-pub fn find_free(t: &[u64], n: usize) -> Found
+pub fn find_free(t: &[u64], n: usize) -> Option<usize>
     requires { Shaped t.now n }
     ensures { result ≡ find_free t.now n }
 {
     let mut free: usize = 0;
     loop {
         if free >= n {
-            break Found::Nothing;
+            break None;
         }
         if t[free] == 0 {
-            break Found::At(free);
+            break Some(free);
         }
         free += 1;
     }
-}
-
-// 1 for a used mark, 0 for an empty one.
-fn tally(mark: u64) -> usize
-    ensures { (result ≡ count_one mark) × (result ≤ 1) }
-{
-    if mark == 0 { 0 } else { 1 }
 }
 
 // How many places are used.
@@ -95,11 +80,5 @@ pub fn count_used(t: &[u64], n: usize) -> usize
     requires { Shaped t.now n }
     ensures { result ≡ used_count t.now n }
 {
-    let mut count: usize = 0;
-    let mut i: usize = 0;
-    while i < n {
-        count += tally(t[i]);
-        i += 1;
-    }
-    count
+    t[..n].iter().filter(|mark| **mark != 0).count()
 }

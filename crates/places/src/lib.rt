@@ -3,9 +3,11 @@
 #![tactic(auto)]
 
 ghost use Rattle.std.specs.Prelude.{◌≡◌, ◌<◌};
+ghost use Rattle.refusal.specs.Verdicts.{verdict};
 ghost use Rattle.places.specs.Layout.{Shaped, count, places_refusal, used_at, id_of, address_of};
 
 use addresses::Address;
+use refusal::{Refusal, Why};
 use replay_protection::NETCODE_REPLAY_BUFFER_SIZE;
 
 mod find;
@@ -28,21 +30,21 @@ pub fn count_places(t: &[u64]) -> usize
     t.len() / PLACE_WORDS
 }
 
-// 23 for a length that is no whole number of places, for none of them, and for more than most.
-pub fn places_refusal(t: &[u64], most: usize) -> u8
-    ensures { result ≡ places_refusal t.now most }
+// A length is refused that is no whole number of places, none of them, or more than most.
+pub fn places_refusal(t: &[u64], most: usize) -> Result<(), Refusal>
+    ensures { result ≡ verdict (places_refusal t.now most) }
 {
     let n = t.len() / PLACE_WORDS;
     if t.len() % PLACE_WORDS != 0 {
-        return 23;
+        return Err(Refusal(Why::TableUnfit));
     }
     if n == 0 {
-        return 23;
+        return Err(Refusal(Why::TableUnfit));
     }
     if n > most {
-        return 23;
+        return Err(Refusal(Why::TableUnfit));
     }
-    0
+    Ok(())
 }
 
 // A mark of 0 is empty, any other used.

@@ -7,7 +7,6 @@ use Rattle.prefix.proofs.encode_prefix.Reads as encode-prefix
 use Rattle.prefix.proofs.decode_prefix.Reads as decode-prefix
 use Rattle.prefix.proofs.sequence_of.Reads as sequence-of
 use Rattle.prefix.proofs.read_sequence.Reads as read-sequence
-use Rattle.prefix.proofs.Sequence.refusal.Reads as refusal
 use Rattle.prefix.proofs.get_additional_data.Reads as get-additional-data
 use Rattle.prefix.proofs.get_token_additional_data.Reads as get-token-additional-data
 use Rattle.prefix.proofs.packet_nonce.Reads as packet-nonce
@@ -29,9 +28,6 @@ sequence_of_determined κs a x y e f p q = coincide p q
 
 pub read_sequence_determined : (κs : _) (a : _) (x y : _) (e f : _) → read-sequence.Post κs a x e → read-sequence.Post κs a y f → x ≡ y
 read_sequence_determined κs a x y e f p q = coincide p q
-
-pub refusal_determined : (κs : _) (a : _) (x y : _) (e f : _) → refusal.Post κs a x e → refusal.Post κs a y f → x ≡ y
-refusal_determined κs a x y e f p q = coincide p q
 
 pub get_additional_data_determined : (κs : _) (a : _) (x y : _) (e f : _) → get-additional-data.Post κs a x e → get-additional-data.Post κs a y f → x ≡ y
 get_additional_data_determined κs a x y e f p q = coincide p q

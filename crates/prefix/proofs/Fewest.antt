@@ -1,12 +1,11 @@
 -- `fewest` is what it says: the search over 0 to 8 finds the least n with v < 256 ^ n, and powers of 256 only grow.
+use Rattle.std.specs.Prelude.{Option, Some, None}
 use mathlib.Core.Path.{◌≡◌, refl}
 use Prim.Native.Nat.{ℕ, suc, ◌^◌, ◌≤◌, ◌<◌}
 use native.Mathlib.Nat.{pow-le-pow_right, lt_of_not-le, le_antisymm}
 use native.Mathlib.Omega.{arith}
 use borrow.Author.Tests.{ltb-true, ltb-false}
 use lib.Dec.{ltb}
-use Rattle.serialize.specs.declared.Found.{Found}
-use Rattle.serialize.specs.declared.Found.TheVariants.{At, Nothing}
 use Rattle.serialize.specs.Search.{first_from}
 use Rattle.serialize.proofs.Search.{found_lowest, found_none}
 use Rattle.prefix.specs.Head.{fewest, Fewest, place_or9}
@@ -20,14 +19,14 @@ more_bytes v k m none h =
     let l : k < suc m = lt_of_not-le (λ s. let n : 256 ^ m ≤ v = none s in omega arith) in
     omega arith
 
-means : (v : ℕ) → v < 256 ^ 8 → (f : Found) → first_from (λ n. ltb v (256 ^ n)) 0 9 ≡ f → Fewest v (place_or9 f)
-means v h (At j) e =
+means : (v : ℕ) → v < 256 ^ 8 → (f : Option ℕ) → first_from (λ n. ltb v (256 ^ n)) 0 9 ≡ f → Fewest v (place_or9 f)
+means v h (Some j) e =
     let w = found_lowest (λ n. ltb v (256 ^ n)) 0 9 j e in
     record {
       holds = ltb-true v (256 ^ j) w.holds;
       least = λ m. more_bytes v j m (λ s. ltb-false v (256 ^ m) (w.none m (omega arith) s));
     }
-means v h Nothing e =
+means v h None e =
     let n : 256 ^ 8 ≤ v = ltb-false v (256 ^ 8) (found_none (λ n. ltb v (256 ^ n)) 0 9 e 8 (omega arith) (omega arith)) in
     absurd (omega arith)
 

@@ -1,5 +1,6 @@
 -- A sequence on the wire: what the writer makes is read back, a padded form is the same number, and no form is shorter,
 -- because the bytes of a number are its digits and `fewest` is the least count that holds it.
+use Rattle.std.specs.Prelude.{Ok, Err}
 use mathlib.Core.Path.{◌≡◌, sym, ap, ap₂, ◌∙◌}
 use Prim.Native.Nat.{ℕ, ◌+◌, ◌*◌, ◌/◌, ◌%◌, ◌-◌, ◌^◌, ◌≤◌, ◌<◌}
 use native.Mathlib.Nat.{add-zero}
@@ -12,21 +13,20 @@ use Rattle.serialize.specs.Runs.{part, splice, zeros, Below}
 use Rattle.serialize.specs.Le.{of_le, to_le}
 use Rattle.serialize.proofs.Lists.{part_whole, length_splice, splice_zeros, splice_whole, get_or_splice_in, part_splice_in}
 use Rattle.serialize.proofs.Le.{length_to_le, of_le_to_le, to_le_of_le, of_le_below, of_le_padded, of_le_splice, part_to_le}
-use Rattle.prefix.specs.declared.Sequence.TheVariants.{Number, TooLong, Short}
 use Rattle.prefix.specs.Head.{fewest, prefix_byte, prefix_of, says, head_bytes, sequence_at, Head}
 use Rattle.prefix.proofs.Fewest.{pow256_mono, fewest_means, fewest_le}
 
 -- ---- the reader's three answers, each exactly when
 
-pub reads_number : (l : List ℕ) (at count : ℕ) → count ≤ 8 → at + count ≤ length l → sequence_at l at count ≡ Number (of_le (part l at count))
+pub reads_number : (l : List ℕ) (at count : ℕ) → count ≤ 8 → at + count ≤ length l → sequence_at l at count ≡ Ok (of_le (part l at count))
 unfolding sequence_at pick
 reads_number l at count h f = simp (le-ltb 8 count h, le-ltb (length l) (at + count) f)
 
-pub reads_too_long : (l : List ℕ) (at count : ℕ) → 8 < count → sequence_at l at count ≡ TooLong
+pub reads_too_long : (l : List ℕ) (at count : ℕ) → 8 < count → sequence_at l at count ≡ Err 4
 unfolding sequence_at pick
 reads_too_long l at count h = simp (lt-ltb 8 count h)
 
-pub reads_short : (l : List ℕ) (at count : ℕ) → count ≤ 8 → length l < at + count → sequence_at l at count ≡ Short
+pub reads_short : (l : List ℕ) (at count : ℕ) → count ≤ 8 → length l < at + count → sequence_at l at count ≡ Err 7
 unfolding sequence_at pick
 reads_short l at count h f = simp (le-ltb 8 count h, lt-ltb (length l) (at + count) f)
 
@@ -40,15 +40,15 @@ prefix_reads_back kind count h =
     ap₂ says k n
 
 -- a padded form reads as the same number: n bytes of v, from the fewest to eight, at any place of any buffer
-pub padded_reads_same : (l : List ℕ) (at v n : ℕ) → v < 256 ^ 8 → fewest v ≤ n → n ≤ 8 → at + n ≤ length l → sequence_at (splice l at (to_le n v)) at n ≡ Number v
+pub padded_reads_same : (l : List ℕ) (at v n : ℕ) → v < 256 ^ 8 → fewest v ≤ n → n ≤ 8 → at + n ≤ length l → sequence_at (splice l at (to_le n v)) at n ≡ Ok v
 padded_reads_same l at v n h k m f =
     let w : length (to_le n v) ≡ n = length_to_le n v in
     let e : length (splice l at (to_le n v)) ≡ length l = length_splice l at (to_le n v) (omega arith) in
     let p : 256 ^ fewest v ≤ 256 ^ n = pow256_mono k in
-    reads_number (splice l at (to_le n v)) at n m (omega arith) ∙ ap Number (of_le_splice l at n v f (omega (arith, (fewest_means v h).holds)))
+    reads_number (splice l at (to_le n v)) at n m (omega arith) ∙ ap Ok (of_le_splice l at n v f (omega (arith, (fewest_means v h).holds)))
 
 -- so reading what was written gives the sequence back, with the count minimal
-pub sequence_reads_back : (l : List ℕ) (at v : ℕ) → v < 256 ^ 8 → at + fewest v ≤ length l → sequence_at (splice l at (to_le (fewest v) v)) at (fewest v) ≡ Number v
+pub sequence_reads_back : (l : List ℕ) (at v : ℕ) → v < 256 ^ 8 → at + fewest v ≤ length l → sequence_at (splice l at (to_le (fewest v) v)) at (fewest v) ≡ Ok v
 sequence_reads_back l at v h f = padded_reads_same l at v (fewest v) h (omega arith) (fewest_le v h) f
 
 -- and a whole head, type and sequence
@@ -65,8 +65,8 @@ head_reads_back l at kind v k h f =
           ∙ prefix_reads_back kind (fewest v) k;
       follows =
           reads_number (splice l at b) (at + 1) (fewest v) (fewest_le v h) (omega arith)
-          ∙ ap (λ (t : List ℕ). Number (of_le t)) (part_splice_in l at b 1 (fewest v) fits (omega arith) ∙ part_whole (to_le (fewest v) v) (fewest v) n)
-          ∙ ap Number (of_le_to_le (fewest v) v (fewest_means v h).holds);
+          ∙ ap (λ (t : List ℕ). Ok (of_le t)) (part_splice_in l at b 1 (fewest v) fits (omega arith) ∙ part_whole (to_le (fewest v) v) (fewest v) n)
+          ∙ ap Ok (of_le_to_le (fewest v) v (fewest_means v h).holds);
     }
 
 -- no shorter form exists

@@ -4,37 +4,18 @@
 ghost use Rattle.std.specs.Prelude.{◌≡◌, ◌+◌, ◌≤◌, length};
 ghost use Rattle.serialize.specs.Runs.{part, splice};
 ghost use Rattle.serialize.specs.Le.{of_le, to_le};
-ghost use Rattle.prefix.specs.Head.{fewest, prefix_byte, prefix_of, sequence_at, refusal_of};
+ghost use Rattle.prefix.specs.Head.{fewest, prefix_byte, prefix_of, sequence_at};
 ghost use Rattle.prefix.specs.Sealed.{additional_data, token_additional_data, packet_nonce};
+
+use refusal::{Refusal, Why};
 
 pub const NETCODE_VERSION_INFO: [u8; 13] = *b"NETCODE 1.02\0";
 
-// What a prefix byte says: the packet's type, and how many sequence bytes follow.
+// What a prefix byte says: the packet's type, of any byte and so a number (over 6 there is none), and how many sequence bytes follow.
 #[derive(Clone, Copy)]
 pub struct Prefix {
     pub kind: u8,
     pub count: usize,
-}
-
-// What a reader makes of a sequence's bytes: the number; or a count that no sequence has; or a source that ends before them.
-#[derive(Clone, Copy)]
-pub enum Sequence {
-    Number(u64),
-    TooLong,
-    Short,
-}
-
-impl Sequence {
-    // Document 01's number for the answer; 0 is a sequence.
-    pub fn refusal(self) -> u8
-        ensures { result ≡ refusal_of self }
-    {
-        match self {
-            Sequence::Number(_) => 0,
-            Sequence::TooLong => 4,
-            Sequence::Short => 7,
-        }
-    }
 }
 
 // How many bytes the writer uses for a sequence: it walks the eight bytes from the top down to the first that is not zero.
@@ -75,7 +56,7 @@ pub fn write_sequence(out: &mut [u8], at: usize, seq: u64) -> usize
     let len = sequence_bytes_required(seq);
     let mut sequence_scratch = [0u8; 8];
     serialize::write_u64(&mut sequence_scratch, 0, seq);
-    serialize::copy_bytes(out, at, &sequence_scratch, 0, len);
+    serialize::copy(out, at, &sequence_scratch, 0, len);
     len
 }
 
@@ -85,24 +66,25 @@ pub fn sequence_of(source: &[u8], at: usize, len: usize) -> u64
     ensures { result ≡ of_le (part source.now at len) }
 {
     let mut seq_scratch = [0u8; 8];
-    serialize::copy_bytes(&mut seq_scratch, 0, source, at, len);
+    serialize::copy(&mut seq_scratch, 0, source, at, len);
     serialize::read_u64(&seq_scratch, 0)
 }
 
-// The sequence that a prefix byte's count says, of any source.
-pub fn read_sequence(source: &[u8], at: usize, len: usize) -> Sequence
+// The sequence that a prefix byte's count says, of any source: refused where no sequence has that count, or where the source ends
+// before its bytes.
+pub fn read_sequence(source: &[u8], at: usize, len: usize) -> Result<u64, Refusal>
     ensures { result ≡ sequence_at source.now at len }
 {
     if len > 8 {
-        return Sequence::TooLong;
+        return Err(Refusal(Why::SequenceLong));
     }
     if at > source.len() {
-        return Sequence::Short;
+        return Err(Refusal(Why::TagMissing));
     }
     if source.len() - at < len {
-        return Sequence::Short;
+        return Err(Refusal(Why::TagMissing));
     }
-    Sequence::Number(sequence_of(source, at, len))
+    Ok(sequence_of(source, at, len))
 }
 
 // Additional data of a packet: version, protocol, prefix byte.
@@ -110,7 +92,7 @@ pub fn get_additional_data(prefix: u8, protocol_id: u64) -> [u8; 22]
     ensures { result ≡ additional_data prefix protocol_id }
 {
     let mut buffer = [0u8; 22];
-    serialize::copy_bytes(&mut buffer, 0, &NETCODE_VERSION_INFO, 0, 13);
+    serialize::copy(&mut buffer, 0, &NETCODE_VERSION_INFO, 0, 13);
     serialize::write_u64(&mut buffer, 13, protocol_id);
     buffer[21] = prefix;
     buffer
@@ -121,7 +103,7 @@ pub fn get_token_additional_data(protocol_id: u64, expire_timestamp: u64) -> [u8
     ensures { result ≡ token_additional_data protocol_id expire_timestamp }
 {
     let mut buffer = [0u8; 29];
-    serialize::copy_bytes(&mut buffer, 0, &NETCODE_VERSION_INFO, 0, 13);
+    serialize::copy(&mut buffer, 0, &NETCODE_VERSION_INFO, 0, 13);
     serialize::write_u64(&mut buffer, 13, protocol_id);
     serialize::write_u64(&mut buffer, 21, expire_timestamp);
     buffer

@@ -8,21 +8,9 @@ ghost use Rattle.print.specs.Verdict.{bit};
 use std::io;
 use std::io::{Print, Stdout};
 
-// The digit of n, in hexadecimal.
-fn digit(n: u8) -> u8
-    requires { n < 16 }
-{
-    if n < 10 { n + 48 } else { n + 55 }
-}
-
-fn byte(to: Stdout, b: u8) -> io::Result<()> {
-    let pair = [32, digit(b / 16), digit(b % 16)];
-    to.write_all(&pair)
-}
-
 fn hex(to: Stdout, s: &[u8]) -> io::Result<()> {
     for b in s {
-        byte(to, *b)?;
+        print!(to; " {b:02X}")?;
     }
     Ok(())
 }
@@ -46,11 +34,7 @@ pub fn bytes(to: Stdout, name: &[u8], got: &[u8], want: &[u8]) -> io::Result<u32
 {
     to.write_all(name)?;
     hex(to, got)?;
-    let n = got.len();
-    if n != want.len() {
-        return verdict(to, false);
-    }
-    verdict(to, serialize::same_bytes(got, 0, want, 0, n))
+    verdict(to, got == want)
 }
 
 // The same for a number.

@@ -1,5 +1,6 @@
 -- A query reads nothing but set-up, the clock and what it is lent, and refuses by the tests of lengths alone: so an open ask changes no
 -- answer. By an id the search decides, and it finds the lowest used slot that has the id.
+use Rattle.std.specs.Prelude.{Option, Some, None}
 use mathlib.Core.Path.{◌≡◌, refl, sym}
 use mathlib.Core.Bool.{Bool, true, false}
 use mathlib.Core.Logic.{◌↔◌}
@@ -7,9 +8,6 @@ use Prim.Native.Nat.{ℕ}
 use native.Mathlib.Omega.{arith}
 use mathlib.Core.List.{List, [], ◌∷◌}
 use lib.ListN.{length}
-use Rattle.serialize.specs.declared.Found.{Found}
-use Rattle.serialize.specs.declared.Found.TheVariants.{At}
-use Rattle.serialize.specs.declared.Found.TheVariants.{Nothing as NotFound}
 use Rattle.serialize.specs.Choice.{pick}
 use Rattle.times.specs.Times.{since}
 use Rattle.places.specs.Layout.{address_of, received_at, user_data_at}
@@ -57,10 +55,10 @@ unfolding pick
 either P true x y p q = p
 either P false x y p q = q
 
-wherever : {A : Type 0} (P : A → Type 0) (f : Found) (at : ℕ → A) (none : A) → ((i : ℕ) → P (at i)) → P none → P (by_slot f at none)
+wherever : {A : Type 0} (P : A → Type 0) (f : Option ℕ) (at : ℕ → A) (none : A) → ((i : ℕ) → P (at i)) → P none → P (by_slot f at none)
 unfolding by_slot
-wherever P (At i) at none p q = p i
-wherever P NotFound at none p q = q
+wherever P (Some i) at none p q = p i
+wherever P None at none p q = q
 
 module _ (s : NetcodeServer) where
   abbrev Other : ℕ → Type 0
@@ -96,10 +94,10 @@ abbrev pub Named : NetcodeServer → List ℕ → ℕ → ℕ → Type 0
 Named s slots x i = Keyed slots s.set.slots id (x ∷ []) i
 
 module _ (s : NetcodeServer) (slots : List ℕ) (x : ℕ) (taken : slots_refusal s.set (length slots) ≡ 0) where
-  found : (j : ℕ) → (find_id slots s.set.slots x ≡ At j) ↔ LowestOf (Named s slots x) s.set.slots j
+  found : (j : ℕ) → (find_id slots s.set.slots x ≡ Some j) ↔ LowestOf (Named s slots x) s.set.slots j
   found = id_found slots s.set.slots (is_shaped s slots _ refl taken) x
 
-  missed : (find_id slots s.set.slots x ≡ NotFound) ↔ NoneOf (Named s slots x) s.set.slots
+  missed : (find_id slots s.set.slots x ≡ None) ↔ NoneOf (Named s slots x) s.set.slots
   missed = id_none slots s.set.slots (is_shaped s slots _ refl taken) x
 
   -- the lowest slot with the id answers
@@ -140,7 +138,7 @@ module _ (s : NetcodeServer) (slots : List ℕ) (x : ℕ) (taken : slots_refusal
         (λ f. absurd (missed.0 f w.place w.below w.here)),
   )
     where
-      by_search : {A : Type 0} (f : Found) → find_id slots s.set.slots x ≡ f
-          → ((j : ℕ) → find_id slots s.set.slots x ≡ At j → A) → (find_id slots s.set.slots x ≡ NotFound → A) → A
-      by_search (At j) e p q = p j e
-      by_search NotFound e p q = q e
+      by_search : {A : Type 0} (f : Option ℕ) → find_id slots s.set.slots x ≡ f
+          → ((j : ℕ) → find_id slots s.set.slots x ≡ Some j → A) → (find_id slots s.set.slots x ≡ None → A) → A
+      by_search (Some j) e p q = p j e
+      by_search None e p q = q e

@@ -51,11 +51,15 @@ module _ (t : List ℕ) (n : ℕ) (ids : Bool) where
     unfolding listed used_count
     put_start = (sym (splice_none list 0), refl, omega arith, refl)
 
+    -- there is room for what place i adds
+    pub room_left : (k i : ℕ) → k ≡ used_count t i → i < n → k + count_one (get_or t i 0) ≤ length list
+    room_left k i c h =
+        let e : k + count_one (get_or t i 0) ≡ used_count t (i + 1) = count_turn t i k (count_one (get_or t i 0)) c refl in
+        omega (arith, count_grows t (i + 1) n (omega arith))
+
     module _ (r : List ℕ) (k i : ℕ) (w : Put list r k i) where
       pub put_room : i < n → k + count_one (get_or t i 0) ≤ length r
-      put_room h =
-          let e : k + count_one (get_or t i 0) ≡ used_count t (i + 1) = count_turn t i k (count_one (get_or t i 0)) w.1 refl in
-          omega (arith, count_grows t (i + 1) n (omega arith), w.3)
+      put_room h = omega (arith, room_left k i w.1 h, w.3)
 
       pub put_turn : i < n → (u : List ℕ) (j : ℕ) → u ≡ splice r k (of_place t n ids i) → j ≡ k + count_one (get_or t i 0)
           → Put list u j (i + 1)

@@ -1,5 +1,6 @@
 -- A number that is not 0 is the answer, and one that is 0 lets what was found decide: so each query's ways out are the cases of its
 -- definition.
+use Rattle.std.specs.Prelude.{Option, Some, None}
 use mathlib.Core.Path.{◌≡◌, refl, sym, ap, ap₂, ◌∙◌}
 use mathlib.Core.Bool.{Bool}
 use Prim.Native.Nat.{ℕ, ◌≤◌, ◌<◌}
@@ -8,8 +9,6 @@ use mathlib.Core.List.{List}
 use lib.ListN.{length}
 use lib.Dec.{eqb, ltb}
 use borrow.Author.Tests.{eq-eqb, ne_eqb, lt-ltb, le-ltb}
-use Rattle.serialize.specs.declared.Found.{Found}
-use Rattle.serialize.specs.declared.Found.TheVariants.{At, Nothing}
 use Rattle.serialize.specs.Choice.{pick}
 use Rattle.serialize.specs.Runs.{part, splice}
 use Rattle.serialize.proofs.Lists.{part_whole}
@@ -55,21 +54,21 @@ module _ (s : NetcodeServer) (slots : List ℕ) (r : ℕ) (tested : r ≡ slots_
     is_next = passes r (slots_refusal s.set (length slots)) tested refused next
 
   -- f is what the search for an id found
-  module _ (zero : r ≡ 0) (id : ℕ) (f : Found) (found : f ≡ find_id slots s.set.slots id) where
-    pub is_place : (i : ℕ) → f ≡ At i → Shaped slots s.set.slots × (i < s.set.slots)
+  module _ (zero : r ≡ 0) (id : ℕ) (f : Option ℕ) (found : f ≡ find_id slots s.set.slots id) where
+    pub is_place : (i : ℕ) → f ≡ Some i → Shaped slots s.set.slots × (i < s.set.slots)
     is_place i e = (is_shaped zero, ((id_found slots s.set.slots (is_shaped zero) id i).0 (sym found ∙ e)).below)
 
     module _ {A : Type 0} (refused : ℕ → A) (at : ℕ → A) (none : A) where
       by_found_lem : by_slot f at none ≡ with_slots s slots refused (by_slot (find_id slots s.set.slots id) at none)
-      by_found_lem = ap (λ (x : Found). by_slot x at none) found ∙ is_next refused (by_slot (find_id slots s.set.slots id) at none) zero
+      by_found_lem = ap (λ (x : Option ℕ). by_slot x at none) found ∙ is_next refused (by_slot (find_id slots s.set.slots id) at none) zero
 
-      pub is_found : (i : ℕ) → f ≡ At i → at i ≡ with_slots s slots refused (by_slot (find_id slots s.set.slots id) at none)
+      pub is_found : (i : ℕ) → f ≡ Some i → at i ≡ with_slots s slots refused (by_slot (find_id slots s.set.slots id) at none)
       unfolding by_slot
-      is_found i e = sym (ap (λ (x : Found). by_slot x at none) e) ∙ by_found_lem
+      is_found i e = sym (ap (λ (x : Option ℕ). by_slot x at none) e) ∙ by_found_lem
 
-      pub is_missed : f ≡ Nothing → none ≡ with_slots s slots refused (by_slot (find_id slots s.set.slots id) at none)
+      pub is_missed : f ≡ None → none ≡ with_slots s slots refused (by_slot (find_id slots s.set.slots id) at none)
       unfolding by_slot
-      is_missed e = sym (ap (λ (x : Found). by_slot x at none) e) ∙ by_found_lem
+      is_missed e = sym (ap (λ (x : Option ℕ). by_slot x at none) e) ∙ by_found_lem
 
 -- a list of the slots: r is what their test gave, k their count
 module _ (s : NetcodeServer) (slots list : List ℕ) (ids : Bool) (r : ℕ) (tested : r ≡ slots_refusal s.set (length slots)) where

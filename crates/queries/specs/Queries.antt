@@ -1,9 +1,6 @@
 -- The queries (document 01, "How the host answers": queries work during an ask and show the tables as they stand; "When the server says no": 23
 -- for a length unlike set-up's, 14 for a list that is too short, an unknown id is nothing; a stored time later than now is zero away).
-use Rattle.std.specs.Prelude.{ℕ, zero, suc, Bool, List, [], ◌∷◌, ◌++◌, length, eqb, ltb}
-use Rattle.serialize.specs.declared.Found.{Found}
-use Rattle.serialize.specs.declared.Found.TheVariants.{At}
-use Rattle.serialize.specs.declared.Found.TheVariants.{Nothing as NotFound}
+use Rattle.std.specs.Prelude.{ℕ, zero, suc, Bool, List, [], ◌∷◌, ◌++◌, length, eqb, ltb, Option, Some, None}
 use Rattle.serialize.specs.Choice.{pick}
 use Rattle.serialize.specs.Runs.{splice}
 use Rattle.times.specs.Times.{since}
@@ -20,9 +17,9 @@ abbrev pub with_slots : {A : Type 0} → NetcodeServer → List ℕ → (ℕ →
 with_slots s slots refused next = pick (eqb (slots_refusal s.set (length slots)) 0) next (refused (slots_refusal s.set (length slots)))
 
 -- the lowest slot with an id, or nothing
-unfoldable pub by_slot : {A : Type 0} → Found → (ℕ → A) → A → A
-by_slot (At i) f none = f i
-by_slot NotFound f none = none
+unfoldable pub by_slot : {A : Type 0} → Option ℕ → (ℕ → A) → A → A
+by_slot (Some i) f none = f i
+by_slot None f none = none
 
 -- ---- the connected
 

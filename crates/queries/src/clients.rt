@@ -3,7 +3,6 @@ ghost use Rattle.std.specs.Prelude.{◌≡◌};
 ghost use Rattle.queries.specs.Queries.{connected_clients, is_connected, client_address, time_since, user_data_of, told};
 
 use crate::Reply;
-use serialize::Found;
 use server::NetcodeServer;
 
 // How many slots are used.
@@ -11,8 +10,7 @@ pub fn connected_clients(server: NetcodeServer, slots: &[u64]) -> Reply
     ensures { result ≡ connected_clients server slots.now }
 {
     let set = server.set;
-    let refusal = server::slots_refusal(set, slots.len());
-    if refusal != 0 {
+    if let Err(refusal) = server::slots_refusal(set, slots.len()) {
         return Reply::Refused(refusal);
     }
     let count = places::count_used(slots, set.slots);
@@ -23,13 +21,12 @@ pub fn is_client_connected(server: NetcodeServer, slots: &[u64], client_id: u64)
     ensures { result ≡ is_connected server slots.now client_id }
 {
     let set = server.set;
-    let refusal = server::slots_refusal(set, slots.len());
-    if refusal != 0 {
+    if let Err(refusal) = server::slots_refusal(set, slots.len()) {
         return Reply::Refused(refusal);
     }
     match places::find_by_id(slots, set.slots, client_id) {
-        Found::At(_) => Reply::Connected,
-        Found::Nothing => Reply::Nothing,
+        Some(_) => Reply::Connected,
+        None => Reply::Nothing,
     }
 }
 
@@ -37,13 +34,12 @@ pub fn client_addr(server: NetcodeServer, slots: &[u64], client_id: u64) -> Repl
     ensures { result ≡ client_address server slots.now client_id }
 {
     let set = server.set;
-    let refusal = server::slots_refusal(set, slots.len());
-    if refusal != 0 {
+    if let Err(refusal) = server::slots_refusal(set, slots.len()) {
         return Reply::Refused(refusal);
     }
     match places::find_by_id(slots, set.slots, client_id) {
-        Found::At(i) => Reply::Addr(places::address(slots, set.slots, i)),
-        Found::Nothing => Reply::Nothing,
+        Some(i) => Reply::Addr(places::address(slots, set.slots, i)),
+        None => Reply::Nothing,
     }
 }
 
@@ -56,16 +52,15 @@ pub fn time_since_last_received_packet(
     ensures { result ≡ time_since server slots.now client_id }
 {
     let set = server.set;
-    let refusal = server::slots_refusal(set, slots.len());
-    if refusal != 0 {
+    if let Err(refusal) = server::slots_refusal(set, slots.len()) {
         return Reply::Refused(refusal);
     }
     match places::find_by_id(slots, set.slots, client_id) {
-        Found::At(i) => {
+        Some(i) => {
             let current_time = server.current_time;
             Reply::Since(current_time.since(records::received_time(slots, set.slots, i)))
         }
-        Found::Nothing => Reply::Nothing,
+        None => Reply::Nothing,
     }
 }
 
@@ -74,15 +69,14 @@ pub fn user_data(server: NetcodeServer, slots: &[u64], client_id: u64, out: &mut
     ensures { told result out.new ≡ user_data_of server slots.now client_id out.old }
 {
     let set = server.set;
-    let refusal = server::slots_refusal(set, slots.len());
-    if refusal != 0 {
+    if let Err(refusal) = server::slots_refusal(set, slots.len()) {
         return Reply::Refused(refusal);
     }
     match places::find_by_id(slots, set.slots, client_id) {
-        Found::At(i) => {
+        Some(i) => {
             *out = records::user_data(slots, set.slots, i);
             Reply::UserData
         }
-        Found::Nothing => Reply::Nothing,
+        None => Reply::Nothing,
     }
 }

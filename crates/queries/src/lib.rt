@@ -3,6 +3,7 @@
 #![tactic(auto)]
 
 use addresses::Address;
+use refusal::Refusal;
 use times::Time;
 
 mod clients;
@@ -16,10 +17,10 @@ pub use clients::{
 pub use lists::{addresses, clients_id, clients_slot};
 pub use server_itself::{current_time, max_clients};
 
-// What a query comes to. An id that is not connected is `Nothing`.
+// What a query comes to, an enum of its own, as document 01 wants an answer. An id that is not connected is `Nothing`.
 #[derive(Clone, Copy)]
 pub enum Reply {
-    Refused(u8),
+    Refused(Refusal),
     Nothing,
     Connected,
     Count(usize),

@@ -6,11 +6,12 @@ use crate::Reply;
 
 impl Reply {
     // The refusal's number, else 0.
+    #[tactic(auto, unfolding(crate::specs::Replies::number_of))]
     pub fn number(self) -> u8
         ensures { result ≡ number_of self }
     {
         match self {
-            Reply::Refused(number) => number,
+            Reply::Refused(refusal) => refusal.number(),
             Reply::Nothing => 0,
             Reply::Connected => 0,
             Reply::Count(_) => 0,
@@ -21,11 +22,12 @@ impl Reply {
     }
 
     // Which case, the number, and up to three values: a count, the words of an address, or seconds and nanoseconds.
+    #[tactic(auto, unfolding(crate::specs::Replies::words_of))]
     pub fn words(self) -> [u64; 5]
         ensures { result ≡ words_of self }
     {
         match self {
-            Reply::Refused(number) => [0, number as u64, 0, 0, 0],
+            Reply::Refused(refusal) => [0, u64::from(refusal.number()), 0, 0, 0],
             Reply::Nothing => [1, 0, 0, 0, 0],
             Reply::Connected => [2, 0, 0, 0, 0],
             Reply::Count(count) => [3, 0, count as u64, 0, 0],

@@ -1,5 +1,6 @@
 -- Used addresses, and used ids, stay distinct: filling brings a key that no used place has, emptying takes one away, and a store to a body
 -- touches none. The count of used places moves with the marks.
+use Rattle.std.specs.Prelude.{Some, None}
 use mathlib.Core.Path.{◌≡◌, refl, sym, ap, ◌∙◌}
 use Prim.Native.Nat.{ℕ, ◌+◌, ◌<◌}
 use native.Mathlib.Nat.{zero-add}
@@ -7,7 +8,6 @@ use native.Mathlib.Omega.{arith}
 use mathlib.Core.List.{List, [], ◌∷◌}
 use lib.ListN.{length, get_or, get_or-replicate, length-replicate}
 use lib.Seq.{get_or-set_same}
-use Rattle.serialize.specs.declared.Found.TheVariants.{At, Nothing}
 use Rattle.serialize.specs.Runs.{part, splice, zeros}
 use Rattle.serialize.proofs.Lists.{length_part, get_or_splice_in}
 use Rattle.addresses.specs.Addresses.{words_of}
@@ -90,21 +90,21 @@ module _ (t : List ℕ) (n i : ℕ) (shape : Shaped t n) (here : i < n) where
 -- ---- filling, by what the searches said
 
 module _ (t : List ℕ) (n i : ℕ) (shape : Shaped t n) (here : i < n) (c : Connection) (sized : Sized c) where
-  pub filled_distinct_addresses : find_address t n c.addr ≡ Nothing → Distinct addr t n → Distinct addr (filled t n i c) n
+  pub filled_distinct_addresses : find_address t n c.addr ≡ None → Distinct addr t n → Distinct addr (filled t n i c) n
   filled_distinct_addresses e = placed_distinct_addresses t n i shape here c.client_id (words_of c.addr) (body_of c) refl (body_length_lem c sized) ((address_none t n shape c.addr).0 e)
 
-  pub filled_distinct_ids : find_id t n c.client_id ≡ Nothing → Distinct id t n → Distinct id (filled t n i c) n
+  pub filled_distinct_ids : find_id t n c.client_id ≡ None → Distinct id t n → Distinct id (filled t n i c) n
   filled_distinct_ids e = placed_distinct_ids t n i shape here c.client_id (words_of c.addr) (body_of c) refl (body_length_lem c sized) ((id_none t n shape c.client_id).0 e)
 
   -- the record is found by its address and by its id
-  pub filled_finds_address : find_address t n c.addr ≡ Nothing → find_address (filled t n i c) n c.addr ≡ At i
+  pub filled_finds_address : find_address t n c.addr ≡ None → find_address (filled t n i c) n c.addr ≡ Some i
   filled_finds_address e =
       let whole = body_length_lem c sized in
       let kept = (placed_elsewhere t n i shape here c.client_id (words_of c.addr) (body_of c) refl whole).long in
       (address_found (filled t n i c) n (shaped_kept kept shape) c.addr i).1
       (placed_found_address t n i shape here c.client_id (words_of c.addr) (body_of c) refl whole ((address_none t n shape c.addr).0 e))
 
-  pub filled_finds_id : find_id t n c.client_id ≡ Nothing → find_id (filled t n i c) n c.client_id ≡ At i
+  pub filled_finds_id : find_id t n c.client_id ≡ None → find_id (filled t n i c) n c.client_id ≡ Some i
   filled_finds_id e =
       let whole = body_length_lem c sized in
       let kept = (placed_elsewhere t n i shape here c.client_id (words_of c.addr) (body_of c) refl whole).long in

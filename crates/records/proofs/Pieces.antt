@@ -1,11 +1,13 @@
 -- A record is written piece after piece, each right after the last, so that what was written is one run of words.
+use Rattle.std.specs.Int.{from_bool}
 use mathlib.Core.Path.{◌≡◌, refl, sym, ap, ap₂, ◌∙◌}
-use mathlib.Core.Bool.{Bool}
+use mathlib.Core.Bool.{Bool, true, false}
 use mathlib.Core.List.{List, [], ◌∷◌, ◌++◌}
 use Prim.Native.Nat.{ℕ, ◌+◌, ◌*◌, ◌≤◌}
 use native.Mathlib.Numerals.{add-one, add-two}
 use native.Mathlib.Omega.{arith}
 use lib.ListN.{length, set, length-append, length-take, length-drop}
+use Rattle.serialize.specs.Choice.{pick}
 use Rattle.serialize.specs.Runs.{part, splice}
 use Rattle.serialize.specs.Le.{words}
 use Rattle.serialize.proofs.Lists.{length_part, length_splice, splice_sets, splice_whole, splice_cons, splice_then}
@@ -18,6 +20,12 @@ use Rattle.replay_protection.specs.Ours.{window_of}
 use Rattle.places.specs.Layout.{id_at, address_at, body_at, body_words}
 use Rattle.records.specs.declared.Connection.{Connection}
 use Rattle.records.specs.Records.{put_time, bytes_at, bit, numbers_of, body_of, placed}
+
+-- the library's number of a truth value is the definition's
+pub bit_from : (b : Bool) → from_bool b ≡ bit b
+unfolding bit pick
+bit_from true = refl
+bit_from false = refl
 
 -- ---- words unpacked over the whole of an array
 

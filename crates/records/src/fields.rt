@@ -1,6 +1,7 @@
 // The fields of a record, read and written where they lie. Any word is read: of a timeout its low 32 bits, and a confirmed that is
 // not 0 is true.
 ghost use Rattle.std.specs.Prelude.{◌≡◌, not, ◌+◌, ◌%◌, ◌<◌, ◌≤◌, eqb, length, set};
+ghost use Rattle.refusal.specs.Verdicts.{verdict};
 ghost use Rattle.serialize.specs.Runs.{splice};
 ghost use Rattle.serialize.specs.Le.{words};
 ghost use Rattle.replay_protection.specs.Replay.{refusal, arrive};
@@ -10,6 +11,7 @@ ghost use Rattle.places.specs.Layout.{Shaped, confirmed_at, send_key_at, receive
 ghost use Rattle.records.specs.Records.{bytes_at, time_at, put_time};
 
 use places::BODY_WORDS;
+use refusal::Refusal;
 use replay_protection::ReplayProtection;
 use times::Time;
 
@@ -183,9 +185,9 @@ pub fn store_window(t: &mut [u64], n: usize, i: usize, window: ReplayProtection)
     replay_protection::store_window(t, 5 * n + BODY_WORDS * i + WINDOW, window);
 }
 
-pub fn window_refusal(t: &[u64], n: usize, i: usize, sequence: u64) -> u8
+pub fn window_refusal(t: &[u64], n: usize, i: usize, sequence: u64) -> Result<(), Refusal>
     requires { Shaped t.now n × (i < n) }
-    ensures { result ≡ refusal width (window_at width t.now (window_place n i)) sequence }
+    ensures { result ≡ verdict (refusal width (window_at width t.now (window_place n i)) sequence) }
 {
     replay_protection::refusal_at(t, 5 * n + BODY_WORDS * i + WINDOW, sequence)
 }

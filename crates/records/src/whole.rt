@@ -11,12 +11,6 @@ use addresses::Address;
 use places::BODY_WORDS;
 use times::Time;
 
-fn bit_of(b: bool) -> u64
-    ensures { result ≡ bit b }
-{
-    if b { 1 } else { 0 }
-}
-
 fn put_address(t: &mut [u64], at: usize, addr: Address)
     requires { at + 3 ≤ length t.old }
     ensures { t.new ≡ splice t.old at (words_of addr) }
@@ -31,7 +25,7 @@ fn put_keys(t: &mut [u64], at: usize, confirmed: bool, send_key: [u8; 32], recei
     requires { at + 9 ≤ length t.old }
     ensures { t.new ≡ splice t.old at ((bit confirmed ∷ []) ++ words 4 send_key ++ words 4 receive_key) }
 {
-    t[at] = bit_of(confirmed);
+    t[at] = u64::from(confirmed);
     serialize::pack_words(t, at + 1, &send_key, 0, 4);
     serialize::pack_words(t, at + 5, &receive_key, 0, 4);
 }
@@ -104,7 +98,7 @@ pub fn empty_all(t: &mut [u64], n: usize)
     requires { Shaped t.old n }
     ensures { t.new ≡ splice t.old 0 (zeros n) }
 {
-    serialize::zero_words(t, 0, n);
+    serialize::fill(t, 0, n, 0);
 }
 
 // Place i of the slots takes the record at place j of the pending ones, its window with it; that place is emptied.
@@ -113,8 +107,8 @@ pub fn move_record(slots: &mut [u64], n: usize, i: usize, pending: &mut [u64], m
     ensures { (slots.new ≡ moved slots.old n i pending.old m j) × (pending.new ≡ emptied pending.old j) }
 {
     slots[n + i] = pending[m + j];
-    serialize::copy_words(slots, 2 * n + 3 * i, pending, 2 * m + 3 * j, 3);
-    serialize::copy_words(
+    serialize::copy(slots, 2 * n + 3 * i, pending, 2 * m + 3 * j, 3);
+    serialize::copy(
         slots,
         5 * n + BODY_WORDS * i,
         pending,

@@ -1,5 +1,6 @@
 -- Each number is given exactly when document 01's table says, and leaves what its line says: a line of the table decides the definition's tests up
 -- to its own, and the tests, taken one by one, always come to a line or to no refusal.
+use Rattle.std.specs.Prelude.{Result, Ok, Err}
 use mathlib.Core.Path.{◌≡◌, refl, sym, ap, subst, ◌∙◌}
 use mathlib.Core.Logic.{◌⊎◌, inl, inr, ◌↔◌}
 use mathlib.Core.Bool.{Bool, true, false}
@@ -17,8 +18,6 @@ use Rattle.replay_protection.specs.Replay.{refusal_by, refuses}
 use Rattle.replay_protection.specs.Stored.{window_at}
 use Rattle.replay_protection.specs.Ours.{width}
 use Rattle.bodies.specs.declared.PacketType.{PacketType}
-use Rattle.bodies.specs.declared.TypeRead.{TypeRead}
-use Rattle.bodies.specs.declared.TypeRead.TheVariants.{Known, Invalid}
 use Rattle.bodies.specs.Kinds.{type_of, windowed, is_request}
 use Rattle.bodies.proofs.Back.{type_reads_back, typed_number, untyped_number, number_untyped}
 use Rattle.prefix.specs.Sealed.{version}
@@ -27,7 +26,7 @@ use Rattle.addresses.specs.Addresses.{well_formed, refusal}
 use Rattle.places.specs.Layout.{received_at, window_place}
 use Rattle.places.proofs.Searches.{true_false}
 use Rattle.records.specs.Records.{put_time}
-use Rattle.decode.specs.Decodes.{typed, type_at, count_of, sequence_of, start_at}
+use Rattle.decode.specs.Decodes.{type_at, count_of, sequence_of, start_at}
 use Rattle.server.specs.declared.NetcodeServer.{NetcodeServer}
 use Rattle.server.specs.declared.Answer.TheVariants.{Refused, Ask, Nothing}
 use Rattle.server.specs.declared.Stage.TheVariants.{Idle}
@@ -86,6 +85,27 @@ module _ (table : List ℕ) (n i : ℕ) (kind : PacketType) (sequence : ℕ) whe
   window_0 : Passes table n i kind sequence → window_refusal table n i kind sequence ≡ 0
   unfolding window_refusal refusal_by pick
   window_0 p = by_test (windowed kind) (λ w. simp (w, lt-leb (2 ^ 64) (sequence + width) (p.below w), p.new w)) (λ w. simp w)
+
+-- ---- no type has no other number
+
+abbrev Untyped : Result PacketType ℕ → Type 0
+Untyped (Ok kind) = Unit {0}
+Untyped (Err m) = m ≡ 2
+
+either : (b : Bool) (x y : Result PacketType ℕ) → Untyped x → Untyped y → Untyped (pick b x y)
+unfolding pick
+either true x y p q = p
+either false x y p q = q
+
+untyped : (n : ℕ) → Untyped (type_of n)
+unfolding type_of
+untyped n =
+    either (eqb n 0) _ _ tt
+    (either (eqb n 1) _ _ tt
+    (either (eqb n 2) _ _ tt (either (eqb n 3) _ _ tt (either (eqb n 4) _ _ tt (either (eqb n 5) _ _ tt (either (eqb n 6) _ _ tt refl))))))
+
+only_2 : (n m : ℕ) → type_of n ≡ Err m → m ≡ 2
+only_2 n m e = subst Untyped e (untyped n)
 
 -- ---- a request's number
 
@@ -166,7 +186,7 @@ module _ (t : State) (addr : Address) (out : ℕ) (d : List ℕ) where
   unfolding type_at by_kind pick
   arrives_typed kind k =
       arrives_taken k.taken
-      ∙ simp (le-ltb (length d) 18 k.long) (ap (λ (x : TypeRead). by_kind t addr out d (typed x)) (ap type_of k.type ∙ type_reads_back kind))
+      ∙ simp (le-ltb (length d) 18 k.long) (ap (by_kind t addr out d) (ap type_of k.type ∙ type_reads_back kind))
 
   -- a request: 9, then by its sender
 
@@ -350,9 +370,9 @@ module _ (t : State) (addr : Address) (out : ℕ) (d : List ℕ) where
 
   -- the head, and what comes before it
 
-  past_length : Taken t addr out → 18 ≤ length d → (x : TypeRead) → type_of (get_or d 0 0 % 16) ≡ x → Verdict
-  past_length k h Invalid e = line 2 (says_2 k h (untyped_number (get_or d 0 0 % 16) e))
-  past_length k h (Known kind) e =
+  past_length : Taken t addr out → 18 ≤ length d → (x : Result PacketType ℕ) → type_of (get_or d 0 0 % 16) ≡ x → Verdict
+  past_length k h (Err n) e = line 2 (says_2 k h (untyped_number (get_or d 0 0 % 16) (e ∙ ap Err (only_2 (get_or d 0 0 % 16) n e))))
+  past_length k h (Ok kind) e =
       let y : Typed t addr out d kind = record { taken = k; long = h; type = typed_number (get_or d 0 0 % 16) kind e } in
       by_test (is_request kind)
       (λ r. by_test (ltb (length d) 1078)

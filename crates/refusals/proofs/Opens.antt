@@ -1,5 +1,6 @@
 -- An answer to an ask to open a packet or a challenge is refused exactly where document 01's table says: the shared tests decide the first
 -- numbers and a no is 8; after a yes only a short body is refused, by 9, and a response whose counter is spent, by 15.
+use Rattle.std.specs.Prelude.{Option, Some, None, Result, Ok, Err}
 use mathlib.Core.Path.{◌≡◌, refl, sym, ap, subst, ◌∙◌}
 use mathlib.Core.Logic.{◌↔◌}
 use mathlib.Core.Bool.{Bool, true, false, ◌||◌}
@@ -9,8 +10,6 @@ use mathlib.Core.List.{List}
 use lib.ListN.{length}
 use lib.Dec.{eqb, ltb, leb}
 use borrow.Author.Tests.{eq-eqb, ne_eqb, lt-ltb, eqb-true, ltb-true, ltb-false}
-use Rattle.serialize.specs.declared.Found.{Found}
-use Rattle.serialize.specs.declared.Found.TheVariants.{At, Nothing}
 use Rattle.serialize.specs.Choice.{pick}
 use Rattle.serialize.specs.Runs.{part}
 use Rattle.serialize.proofs.Choice.{by_test}
@@ -18,8 +17,6 @@ use Rattle.serialize.proofs.Lists.{length_part}
 use Rattle.bodies.specs.declared.PacketType.{PacketType}
 use Rattle.bodies.specs.declared.Packet.{Packet}
 use Rattle.bodies.specs.declared.Packet.TheVariants as packet
-use Rattle.bodies.specs.declared.Body.{Body}
-use Rattle.bodies.specs.declared.Body.TheVariants.{Whole, Short}
 use Rattle.bodies.specs.Bodies.{least, numbers, read_body}
 use Rattle.bodies.specs.Tokens.{token_at}
 use Rattle.places.specs.Layout.{address_of}
@@ -76,11 +73,11 @@ module _ (kind : PacketType) (start : ℕ) (d : List ℕ) (inside : start + 16 �
   body_length_lem : length (part d start (length d - 16 - start)) ≡ length d - 16 - start
   body_length_lem = length_part d start (length d - 16 - start) (omega arith)
 
-  body_short : length d - 16 - start < least kind → body_in kind start d ≡ Short
+  body_short : length d - 16 - start < least kind → body_in kind start d ≡ Err 9
   unfolding read_body pick
   body_short h = simp (lt-ltb (length (part d start (length d - 16 - start))) (least kind) (rw body_length_lem h))
 
-  body_whole : ltb (length d - 16 - start) (least kind) ≡ false → body_in kind start d ≡ Whole (numbers kind (part d start (length d - 16 - start)))
+  body_whole : ltb (length d - 16 - start) (least kind) ≡ false → body_in kind start d ≡ Ok (numbers kind (part d start (length d - 16 - start)))
   unfolding read_body pick
   body_whole h = simp (ap (λ (x : ℕ). ltb x (least kind)) body_length_lem ∙ h)
 
@@ -129,27 +126,27 @@ module _ (t : State) (granted : Bool) (held out d : List ℕ) where
       (sym (ap (λ (x : Stage). misfits x t.server.set.slots t.server.set.pending (length d) (length out)) e) ∙ f.fit.fits)
 
   short : (connected : Bool) (place : ℕ) (kind : PacketType) (sequence start : ℕ) → t.server.ask.stage ≡ stage.Packet connected place kind sequence start
-      → body_in kind start d ≡ Short → Told 9 (written (packet_opened t connected place kind sequence start (length out) d) held out)
+      → body_in kind start d ≡ Err 9 → Told 9 (written (packet_opened t connected place kind sequence start (length out) d) held out)
   unfolding packet_opened slot_heard pending_heard slot_body pending_body pick
   short true i kind sequence start s e =
       let n = t.server.set.slots in
-      subst (λ (b : Body). Told 9 (written (from_slot t (slot_body t.server (accepted t.slots n i kind sequence) n i start (length d - 16) b)) held out)) (sym e)
+      subst (λ (b : Result Packet ℕ). Told 9 (written (from_slot t (slot_body t.server (accepted t.slots n i kind sequence) n i start (length d - 16) b)) held out)) (sym e)
       (record { answer = refl; left = slot_9 i kind sequence start s; held_same = refl; out_same = refl })
   short false j kind sequence start s e =
       let m = t.server.set.pending in
-      subst (λ (b : Body). Told 9 (written (from_pending t (pending_body t.server (accepted t.pending m j kind sequence) m j start (length d) (length out) b)) held out)) (sym e)
+      subst (λ (b : Result Packet ℕ). Told 9 (written (from_pending t (pending_body t.server (accepted t.pending m j kind sequence) m j start (length d) (length out) b)) held out)) (sym e)
       (record { answer = refl; left = pending_9 j kind sequence start s; held_same = refl; out_same = refl })
 
-  whole : (connected : Bool) (place : ℕ) (kind : PacketType) (sequence start : ℕ) (p : Packet) → body_in kind start d ≡ Whole p
+  whole : (connected : Bool) (place : ℕ) (kind : PacketType) (sequence start : ℕ) (p : Packet) → body_in kind start d ≡ Ok p
       → (n : ℕ) → (packet_opened t connected place kind sequence start (length out) d).answer ≡ Refused n → ⊥
   unfolding packet_opened slot_heard pending_heard slot_body pending_body pick
   whole true i kind sequence start p e n =
       let m = t.server.set.slots in
-      subst (λ (b : Body). (slot_body t.server (accepted t.slots m i kind sequence) m i start (length d - 16) b).turn.answer ≡ Refused n → ⊥) (sym e)
+      subst (λ (b : Result Packet ℕ). (slot_body t.server (accepted t.slots m i kind sequence) m i start (length d - 16) b).turn.answer ≡ Refused n → ⊥) (sym e)
       (slot_taken t.server _ m i start (length d - 16) p n)
   whole false j kind sequence start p e n =
       let m = t.server.set.pending in
-      subst (λ (b : Body). (pending_body t.server (accepted t.pending m j kind sequence) m j start (length d) (length out) b).turn.answer ≡ Refused n → ⊥) (sym e)
+      subst (λ (b : Result Packet ℕ). (pending_body t.server (accepted t.pending m j kind sequence) m j start (length d) (length out) b).turn.answer ≡ Refused n → ⊥) (sym e)
       (pending_taken t.server j start (length d) (length out) p n)
 
   -- ---- a challenge
@@ -166,65 +163,65 @@ module _ (t : State) (granted : Bool) (held out d : List ℕ) where
     abbrev rest : List ℕ
     rest = emptied t.pending j
 
-    abbrev has_id : Found
+    abbrev has_id : Option ℕ
     has_id = find_id t.slots t.server.set.slots (token_at d start).client_id
 
-    abbrev free : Found
+    abbrev free : Option ℕ
     free = find_free t.slots t.server.set.slots
 
-    to_id : (x : Found) → has_id ≡ x → response ≡ by_id t.server (length d) t.slots rest held out j (token_at d start) x
+    to_id : (x : Option ℕ) → has_id ≡ x → response ≡ by_id t.server (length d) t.slots rest held out j (token_at d start) x
     unfolding responded
     to_id x e = ap (by_id t.server (length d) t.slots rest held out j (token_at d start)) e
 
-    to_free : has_id ≡ Nothing → (x : Found) → free ≡ x → response ≡ by_free t.server (length d) rest held out j (token_at d start) x
+    to_free : has_id ≡ None → (x : Option ℕ) → free ≡ x → response ≡ by_free t.server (length d) rest held out j (token_at d start) x
     unfolding by_id
-    to_free e x f = to_id Nothing e ∙ ap (by_free t.server (length d) rest held out j (token_at d start)) f
+    to_free e x f = to_id None e ∙ ap (by_free t.server (length d) rest held out j (token_at d start)) f
 
-    to_slot : has_id ≡ Nothing → (i : ℕ) → free ≡ At i
+    to_slot : has_id ≡ None → (i : ℕ) → free ≡ Some i
         → response ≡ connecting t.server (length d) held out j i (send_key_of t.server rest j) (counter_of t.server rest j) (token_at d start)
     unfolding by_free
-    to_slot e i f = to_free e (At i) f
+    to_slot e i f = to_free e (Some i) f
 
-    to_denied : has_id ≡ Nothing → free ≡ Nothing
+    to_denied : has_id ≡ None → free ≡ None
         → response ≡ holding held (denied t.server (length d) out (send_key_of t.server rest j) (address_of rest t.server.set.pending j))
     unfolding by_free
-    to_denied e f = to_free e Nothing f
+    to_denied e f = to_free e None f
 
     -- 15 where the counter is spent
-    spent : has_id ≡ Nothing → ResponseSpent t j → response ≡ prepared (closed t.server (Refused 15)) held out
+    spent : has_id ≡ None → ResponseSpent t j → response ≡ prepared (closed t.server (Refused 15)) held out
     unfolding connecting denied pick
     spent e (own i f c) = to_slot e i f ∙ simp (eq-eqb (counter_of t.server rest j) (2 ^ 64 - 1) c)
     spent e (global f c) = to_denied e f ∙ simp (eq-eqb t.server.counters.global_sequence (2 ^ 64 - 1) c)
 
-    spent_told : t.server.ask.stage ≡ stage.Challenge j start → has_id ≡ Nothing → ResponseSpent t j → Told 15 (from_response t j response)
+    spent_told : t.server.ask.stage ≡ stage.Challenge j start → has_id ≡ None → ResponseSpent t j → Told 15 (from_response t j response)
     spent_told s e r =
         subst (λ (x : Prepared). Told 15 (from_response t j x)) (sym (spent e r)) (record { answer = refl; left = emptied_15 j start s; held_same = refl; out_same = refl })
 
     -- and else it is not refused
     data Response : Type 0 where
-      spends : has_id ≡ Nothing → ResponseSpent t j → Response
+      spends : has_id ≡ None → ResponseSpent t j → Response
       goes : ((n : ℕ) → response.turn.answer ≡ Refused n → ⊥) → Response
 
-    free_goes : has_id ≡ Nothing → (x : Found) → free ≡ x → Response
+    free_goes : has_id ≡ None → (x : Option ℕ) → free ≡ x → Response
     unfolding connecting denied pick
-    free_goes e (At i) f =
+    free_goes e (Some i) f =
         by_test (eqb (counter_of t.server rest j) (2 ^ 64 - 1))
         (λ c. spends e (own i f (eqb-true (counter_of t.server rest j) (2 ^ 64 - 1) c)))
         (λ c. goes (λ n h.
         let x : response.turn.answer ≡ Ask = ap (λ (y : Prepared). y.turn.answer) (to_slot e i f) ∙ simp c in
         not_asked (sym x ∙ h)))
-    free_goes e Nothing f =
+    free_goes e None f =
         by_test (eqb t.server.counters.global_sequence (2 ^ 64 - 1))
         (λ c. spends e (global f (eqb-true t.server.counters.global_sequence (2 ^ 64 - 1) c)))
         (λ c. goes (λ n h.
         let x : response.turn.answer ≡ Ask = ap (λ (y : Prepared). y.turn.answer) (to_denied e f) ∙ simp c in
         not_asked (sym x ∙ h)))
 
-    id_goes : (x : Found) → has_id ≡ x → Response
+    id_goes : (x : Option ℕ) → has_id ≡ x → Response
     unfolding by_id
-    id_goes (At k) e =
-        goes (λ n h. not_nothing (sym (ap (λ (y : Prepared). y.turn.answer) (to_id (At k) e)) ∙ h))
-    id_goes Nothing e = free_goes e free refl
+    id_goes (Some k) e =
+        goes (λ n h. not_nothing (sym (ap (λ (y : Prepared). y.turn.answer) (to_id (Some k) e)) ∙ h))
+    id_goes None e = free_goes e free refl
 
   -- ---- a line of the table gives its number
 

@@ -1,5 +1,6 @@
 -- Sending is refused exactly where document 01's table says, and then leaves everything: a line of the table decides the definition's tests up to
 -- its own, and the tests, taken one by one, come to a line, to a slot that ends with 15, to an ask or to nothing.
+use Rattle.std.specs.Prelude.{Option, Some, None}
 use mathlib.Core.Path.{◌≡◌, refl, sym, ap, subst, ◌∙◌}
 use mathlib.Core.Logic.{◌↔◌}
 use mathlib.Core.Bool.{true, false}
@@ -9,8 +10,6 @@ use mathlib.Core.List.{List, []}
 use lib.ListN.{length}
 use lib.Dec.{eqb, ltb}
 use borrow.Author.Tests.{eq-eqb, ne_eqb, lt-ltb, le-ltb, eqb-true, eqb-false, ltb-true, ltb-false}
-use Rattle.serialize.specs.declared.Found.{Found}
-use Rattle.serialize.specs.declared.Found.TheVariants as found
 use Rattle.serialize.specs.Choice.{pick}
 use Rattle.serialize.proofs.Choice.{by_test}
 use Rattle.bodies.specs.declared.Packet.{Packet}
@@ -38,7 +37,7 @@ use Rattle.refusals.specs.Sending.{Ready, Client, Spent, Short, PayloadSays, pay
 
 data Way (Says : ℕ → Type 0) (Ends : ℕ → Address → Type 0) (r : Answer) : Type 0 where
   line : (n : ℕ) → Says n → r ≡ Refused n → Way Says Ends r
-  ends : (c : ℕ) (a : Address) → Ends c a → r ≡ ClientDisconnected c a 0 15 → Way Says Ends r
+  ends : (c : ℕ) (a : Address) → Ends c a → r ≡ ClientDisconnected c a 0 (Some 15) → Way Says Ends r
   asks : r ≡ Ask → Way Says Ends r
   rests : r ≡ Nothing → Way Says Ends r
 
@@ -49,7 +48,7 @@ module _ {Says : ℕ → Type 0} {Ends : ℕ → Address → Type 0} {r : Answer
   refused_by_lem n (asks e) h = absurd (not_asked (sym e ∙ h))
   refused_by_lem n (rests e) h = absurd (not_nothing (sym e ∙ h))
 
-  ended_by : (c : ℕ) (a : Address) → Way Says Ends r → r ≡ ClientDisconnected c a 0 15 → Ends c a
+  ended_by : (c : ℕ) (a : Address) → Way Says Ends r → r ≡ ClientDisconnected c a 0 (Some 15) → Ends c a
   ended_by c a (line m x e) h = let z : ◌≡◌ {A = ℕ} 0 1 = cc in absurd (omega arith)
   ended_by c a (ends d b x e) h = let i : d ≡ c = cc in let j : b ≡ a = cc in subst (Ends c) j (subst (λ (y : ℕ). Ends y b) i x)
   ended_by c a (asks e) h = let z : ◌≡◌ {A = ℕ} 0 1 = cc in absurd (omega arith)
@@ -89,9 +88,9 @@ module _ (s : NetcodeServer) (slots : List ℕ) where
       (λ e. f (λ i. eqb-false (kind_of stage) 0 e (idle_is_0 stage i)))
 
 -- the slot with the id, or none
-by_found_lem : {A : Type 0} (x : Found) → ((i : ℕ) → x ≡ found.At i → A) → (x ≡ found.Nothing → A) → A
-by_found_lem (found.At i) f g = f i refl
-by_found_lem found.Nothing f g = g refl
+by_found_lem : {A : Type 0} (x : Option ℕ) → ((i : ℕ) → x ≡ Some i → A) → (x ≡ None → A) → A
+by_found_lem (Some i) f g = f i refl
+by_found_lem None f g = g refl
 
 -- ---- 15, 14
 
@@ -140,7 +139,7 @@ module _ (s : NetcodeServer) (slots : List ℕ) (i : ℕ) where
 
   module _ (id : ℕ) (out : List ℕ) where
     ending_15 : Spent s slots i
-        → ending s id slots i out ≡ served (answered s (ClientDisconnected id (address_of slots s.set.slots i) 0 15)) (emptied slots i) out
+        → ending s id slots i out ≡ served (answered s (ClientDisconnected id (address_of slots s.set.slots i) 0 (Some 15))) (emptied slots i) out
     unfolding ending_under pick
     ending_15 k = simp (spent_test k)
 
@@ -248,7 +247,7 @@ module _ (s : NetcodeServer) (slots : List ℕ) (id : ℕ) (out : List ℕ) wher
   here i k x = record { place = i; client = k; spent = x; same_id = refl; same_address = refl }
 
   report : (x : Served) (c : ℕ) (a : Address) (e : DisconnectSpent s slots id c a) → x ≡ ending s id slots e.place out
-      → x ≡ served (answered s (ClientDisconnected c a 0 15)) (emptied slots e.place) out
+      → x ≡ served (answered s (ClientDisconnected c a 0 (Some 15))) (emptied slots e.place) out
   report x c a e h = h ∙ ending_15 s slots e.place id out e.spent ∙ sym (rw (e.same_id, e.same_address))
 
   -- ---- update_client
@@ -265,7 +264,7 @@ module _ (s : NetcodeServer) (slots : List ℕ) (id : ℕ) (out : List ℕ) wher
   update_passes k = tested_passes (updated_at s id slots out (find_id slots s.set.slots id)) k
 
   -- an unknown id is nothing
-  pub update_client_unknown : Ready s slots → find_id slots s.set.slots id ≡ found.Nothing → client_updated s slots id out ≡ served (answered s Nothing) slots out
+  pub update_client_unknown : Ready s slots → find_id slots s.set.slots id ≡ None → client_updated s slots id out ≡ served (answered s Nothing) slots out
   unfolding updated_at
   update_client_unknown k e = update_passes k ∙ ap (updated_at s id slots out) e
 
@@ -295,7 +294,7 @@ module _ (s : NetcodeServer) (slots : List ℕ) (id : ℕ) (out : List ℕ) wher
 
   -- a slot that ends with 15 is empty, and record and output are as they were
   pub update_client_spent_leaves : (c : ℕ) (a : Address) (e : UpdateSpent s slots id c a)
-      → client_updated s slots id out ≡ served (answered s (ClientDisconnected c a 0 15)) (emptied slots e.ends.place) out
+      → client_updated s slots id out ≡ served (answered s (ClientDisconnected c a 0 (Some 15))) (emptied slots e.ends.place) out
   update_client_spent_leaves c a e = report updated c a e.ends (update_ends e.ends.place e.ends.client e.late)
 
   abbrev UpdateWay : Type 0
@@ -346,7 +345,7 @@ module _ (s : NetcodeServer) (slots : List ℕ) (id : ℕ) (out : List ℕ) wher
   update_client_leaves n e = update_given n (refused_by_lem n update_way e)
 
   -- it ends a slot with 15 exactly where that slot is overdue and its counter spent
-  pub update_client_spent : (c : ℕ) (a : Address) → ((client_updated s slots id out).turn.answer ≡ ClientDisconnected c a 0 15) ↔ UpdateSpent s slots id c a
+  pub update_client_spent : (c : ℕ) (a : Address) → ((client_updated s slots id out).turn.answer ≡ ClientDisconnected c a 0 (Some 15)) ↔ UpdateSpent s slots id c a
   update_client_spent c a = (ended_by c a update_way, λ e. ap tells (update_client_spent_leaves c a e))
 
   -- ---- disconnect
@@ -363,7 +362,7 @@ module _ (s : NetcodeServer) (slots : List ℕ) (id : ℕ) (out : List ℕ) wher
   disconnect_passes k = tested_passes (ended_at s id slots out (find_id slots s.set.slots id)) k
 
   -- an unknown id is nothing
-  pub disconnect_unknown : Ready s slots → find_id slots s.set.slots id ≡ found.Nothing → disconnected s slots id out ≡ served (answered s Nothing) slots out
+  pub disconnect_unknown : Ready s slots → find_id slots s.set.slots id ≡ None → disconnected s slots id out ≡ served (answered s Nothing) slots out
   unfolding ended_at
   disconnect_unknown k e = disconnect_passes k ∙ ap (ended_at s id slots out) e
 
@@ -378,7 +377,7 @@ module _ (s : NetcodeServer) (slots : List ℕ) (id : ℕ) (out : List ℕ) wher
 
   -- a slot that ends with 15 is empty, and record and output are as they were
   pub disconnect_spent_leaves : (c : ℕ) (a : Address) (e : DisconnectSpent s slots id c a)
-      → disconnected s slots id out ≡ served (answered s (ClientDisconnected c a 0 15)) (emptied slots e.place) out
+      → disconnected s slots id out ≡ served (answered s (ClientDisconnected c a 0 (Some 15))) (emptied slots e.place) out
   disconnect_spent_leaves c a e = report shut c a e (disconnect_ends e.place e.client)
 
   abbrev DisconnectWay : Type 0
@@ -415,5 +414,5 @@ module _ (s : NetcodeServer) (slots : List ℕ) (id : ℕ) (out : List ℕ) wher
   disconnect_leaves n e = disconnect_given n (refused_by_lem n disconnect_way e)
 
   -- it ends a slot with 15 exactly where that slot's counter is spent
-  pub disconnect_spent : (c : ℕ) (a : Address) → ((disconnected s slots id out).turn.answer ≡ ClientDisconnected c a 0 15) ↔ DisconnectSpent s slots id c a
+  pub disconnect_spent : (c : ℕ) (a : Address) → ((disconnected s slots id out).turn.answer ≡ ClientDisconnected c a 0 (Some 15)) ↔ DisconnectSpent s slots id c a
   disconnect_spent c a = (ended_by c a disconnect_way, λ e. ap tells (disconnect_spent_leaves c a e))

@@ -1,6 +1,5 @@
 -- Document 01's table, "When the server says no", for the host's answers: 17, 23, 18; then 8, 9, 13, 15, 24; and what each leaves changed.
-use Rattle.std.specs.Prelude.{ℕ, ◌-◌, ◌^◌, ◌≤◌, ◌<◌, ◌≡◌, Bool, true, false, List, length}
-use Rattle.serialize.specs.declared.Found.TheVariants.{At, Nothing}
+use Rattle.std.specs.Prelude.{ℕ, ◌-◌, ◌^◌, ◌≤◌, ◌<◌, ◌≡◌, Bool, true, false, List, length, Some, None}
 use Rattle.bodies.specs.declared.PacketType.{PacketType}
 use Rattle.bodies.specs.Bodies.{least}
 use Rattle.bodies.specs.Tokens.{token_at}
@@ -50,8 +49,8 @@ both_of t = both_refusal t.server.set (length t.slots) (length t.pending)
 
 -- 15 after a response: the record's own counter, or the global one for a denied, is 2^64-1
 pub data ResponseSpent (t : State) (j : ℕ) : Type 0 where
-  own : (i : ℕ) → find_free t.slots t.server.set.slots ≡ At i → counter_of t.server (emptied t.pending j) j ≡ 2 ^ 64 - 1 → ResponseSpent t j
-  global : find_free t.slots t.server.set.slots ≡ Nothing → t.server.counters.global_sequence ≡ 2 ^ 64 - 1 → ResponseSpent t j
+  own : (i : ℕ) → find_free t.slots t.server.set.slots ≡ Some i → counter_of t.server (emptied t.pending j) j ≡ 2 ^ 64 - 1 → ResponseSpent t j
+  global : find_free t.slots t.server.set.slots ≡ None → t.server.counters.global_sequence ≡ 2 ^ 64 - 1 → ResponseSpent t j
 
 pub data OpenSays (t : State) (granted : Bool) (out d : List ℕ) : ℕ → Type 0 where
   opens_17 : t.server.ask.stage ≡ Idle → OpenSays t granted out d 17
@@ -61,7 +60,7 @@ pub data OpenSays (t : State) (granted : Bool) (out d : List ℕ) : ℕ → Type
   opens_9 : OpenFit t 1 (both_of t) (length d) (length out) → granted ≡ true → (connected : Bool) (place : ℕ) (kind : PacketType) (sequence start : ℕ)
       → t.server.ask.stage ≡ Packet connected place kind sequence start → length d - 16 - start < least kind → OpenSays t granted out d 9
   opens_15 : OpenFit t 1 (both_of t) (length d) (length out) → granted ≡ true → (j start : ℕ) → t.server.ask.stage ≡ Challenge j start
-      → find_id t.slots t.server.set.slots (token_at d start).client_id ≡ Nothing → ResponseSpent t j → OpenSays t granted out d 15
+      → find_id t.slots t.server.set.slots (token_at d start).client_id ≡ None → ResponseSpent t j → OpenSays t granted out d 15
 
 -- what each leaves: 17, 23 and 18 the same state, and so an open ask stays open; 8 the ask closed; 9 the window advanced besides, if the type
 -- is windowed; 15 the pending place emptied besides

@@ -1,8 +1,7 @@
 -- Document 01's table, "When the server says no", for sending: each number with what it is given for, after the lines that come before it in the
 -- order 16, 23, 21, 22, 15, 14; an unknown id is 22 for `generate_payload_packet`, and nothing for `update_client` and `disconnect`. Each leaves
 -- everything as it was. A slot that is being ended is ended with 15 too: it is empty, no packet comes, and the answer carries the 15.
-use Rattle.std.specs.Prelude.{ℕ, ◌-◌, ◌^◌, ◌≤◌, ◌<◌, ◌≡◌, true, false, List, length}
-use Rattle.serialize.specs.declared.Found.TheVariants.{At, Nothing}
+use Rattle.std.specs.Prelude.{ℕ, ◌-◌, ◌^◌, ◌≤◌, ◌<◌, ◌≡◌, true, false, List, length, Some, None}
 use Rattle.bodies.specs.declared.PacketType.{PacketType}
 use Rattle.bodies.specs.declared.Packet.TheVariants.{Payload, Disconnect}
 use Rattle.bodies.specs.Bodies.{kind_of}
@@ -25,7 +24,7 @@ pub record Ready (s : NetcodeServer) (slots : List ℕ) : Type 0 where
 -- slot i is the lowest with the id
 pub record Client (s : NetcodeServer) (slots : List ℕ) (id i : ℕ) : Type 0 where
   pub ready : Ready s slots
-  pub found : find_id slots s.set.slots id ≡ At i
+  pub found : find_id slots s.set.slots id ≡ Some i
 
 -- 15: the slot's counter, about to be used, is 2^64-1
 pub record Spent (s : NetcodeServer) (slots : List ℕ) (i : ℕ) : Type 0 where
@@ -46,7 +45,7 @@ pub data PayloadSays (s : NetcodeServer) (slots : List ℕ) (id : ℕ) (payload 
   -- 21: payload over limit
   payload_21 : Ready s slots → 1300 < length payload → PayloadSays s slots id payload out 21
   -- 22: no such client
-  payload_22 : Ready s slots → length payload ≤ 1300 → find_id slots s.set.slots id ≡ Nothing → PayloadSays s slots id payload out 22
+  payload_22 : Ready s slots → length payload ≤ 1300 → find_id slots s.set.slots id ≡ None → PayloadSays s slots id payload out 22
   -- 15, 14
   payload_15 : length payload ≤ 1300 → (i : ℕ) → Client s slots id i → Spent s slots i → PayloadSays s slots id payload out 15
   payload_14 : length payload ≤ 1300 → (i : ℕ) → Client s slots id i → Short s slots i (kind_of Payload) (length payload) (length out)

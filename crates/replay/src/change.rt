@@ -1,43 +1,29 @@
 // One digit of a line changed, right of its sign, so that a comparison is seen to fail.
 ghost use Rattle.std.specs.Prelude.{◌≤◌, length};
 
-use crate::text;
-
-// The index after the sign, or the line's length.
-fn after_sign(line: &[u8]) -> usize {
-    for i in 0..line.len() {
-        if line[i] == b'=' {
-            return i + 1;
-        }
-    }
-    line.len()
-}
-
 // The index that a number picks in what stands right of the sign: one token after the other, and in each ever another place.
 fn picked(right: &[u8], number: u64) -> usize {
-    let count = text::spaces(right) as u64;
+    let count = tokens::spaces(right) as u64;
     if count == 0 {
         return 0;
     }
-    let which = std::num::wrapping_add_usize((number % count) as usize, 1);
-    let len = text::token(right, which).len() as u64;
+    let which = ((number % count) as usize).wrapping_add(1);
+    let len = tokens::token(right, which).len() as u64;
     if len == 0 {
         return 0;
     }
     let offset = (number / count % 1_000_000) * 7919 % len;
-    std::num::wrapping_add_usize(text::word_start(right, which), offset as usize)
+    tokens::word_start(right, which).wrapping_add(offset as usize)
 }
 
 // The index of the first digit from index from on, or the length.
 fn next_digit(right: &[u8], from: usize) -> usize
     ensures { result ≤ length right.now }
 {
-    let mut i = from;
-    while i < right.len() {
-        if text::is_digit(right[i]) {
+    for i in from..right.len() {
+        if tokens::is_digit::<16>(right[i]) {
             return i;
         }
-        i += 1;
     }
     right.len()
 }
@@ -57,12 +43,9 @@ fn other(digit: u8) -> u8 {
 
 // Changes the digit that the number picks.
 pub(crate) fn change(line: &mut [u8], number: u64) {
-    let start = after_sign(line);
+    let start = tokens::after_sign(line);
     let len = line.len();
-    let at = std::num::wrapping_add_usize(
-        start,
-        chosen(bodies::field(line, start, 0, len), number),
-    );
+    let at = start.wrapping_add(chosen(bodies::field(line, start, 0, len), number));
     if at < line.len() {
         line[at] = other(line[at]);
     }

@@ -9,7 +9,7 @@ fn is_written(line: &[u8], n: usize, out: &[u8; 8], before: &[u8; 8]) -> bool {
         return false;
     }
     if text::is(line, 6, bodies::field(out, 0, 0, n)) {
-        return text::same(bodies::field(out, n, 0, 8), bodies::field(before, n, 0, 8));
+        return bodies::field(out, n, 0, 8) == bodies::field(before, n, 0, 8);
     }
     false
 }
@@ -65,7 +65,7 @@ pub(crate) fn sequence(line: &[u8]) -> u64
 {
     if kinds::is_shaped(line, b"Bn=nN") {
         let mut source = [0u8; text::ROOM];
-        let n = text::bytes(line, 1, &mut source, 0);
+        let n = tokens::bytes(line, 1, &mut source, 0);
         let mut words = [0u64; 2];
         let len = text::number(line, 2) as usize;
         calls::pump_read_sequence(bodies::field(&source, 0, 0, n), 0, len, &mut words);

@@ -2,37 +2,19 @@
 use crate::{text, words};
 
 fn is_number(word: &[u8]) -> bool {
-    if word.len() == 0 {
-        return false;
-    }
-    if word.len() > 16 {
-        return false;
-    }
-    text::is_hex(word)
+    !word.is_empty() && word.len() <= 16 && tokens::are_digits::<16>(word)
 }
 
 fn is_number_below(word: &[u8], bound: u64) -> bool {
-    if is_number(word) {
-        return text::value(word) < bound;
-    }
-    false
+    is_number(word) && tokens::value::<16>(word) < bound
 }
 
 fn is_bytes(word: &[u8]) -> bool {
-    if word.len() == 0 {
-        return false;
-    }
-    if word.len() % 2 != 0 {
-        return false;
-    }
-    text::is_hex(word)
+    !word.is_empty() && word.len() % 2 == 0 && tokens::are_digits::<16>(word)
 }
 
 fn is_bytes_of(word: &[u8], n: usize) -> bool {
-    if word.len() / 2 == n {
-        return is_bytes(word);
-    }
-    false
+    word.len() / 2 == n && is_bytes(word)
 }
 
 // Kinds by a letter: a number, one of a byte, a yes or no, bytes, 32, 256 or 300 of them, a window.
@@ -53,7 +35,7 @@ fn is_given(word: &[u8], kind: u8) -> bool {
 // A capital is for what may be missing; the sign stands for itself.
 fn is_of(word: &[u8], kind: u8) -> bool {
     if kind == b'=' {
-        return text::same(word, b"=");
+        return word == b"=".as_slice();
     }
     if kind < b'a' {
         if text::is_none(word) {
@@ -66,11 +48,11 @@ fn is_of(word: &[u8], kind: u8) -> bool {
 
 // Whether the line's tokens after its name are of these kinds, no more and no fewer.
 pub(crate) fn is_shaped(line: &[u8], kinds: &[u8]) -> bool {
-    if text::spaces(line) != kinds.len() {
+    if tokens::spaces(line) != kinds.len() {
         return false;
     }
-    for i in 0..kinds.len() {
-        if is_of(text::token(line, i + 1), kinds[i]) {} else {
+    for (i, kind) in kinds.iter().enumerate() {
+        if !is_of(tokens::token(line, i + 1), *kind) {
             return false;
         }
     }

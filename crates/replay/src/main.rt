@@ -1,98 +1,123 @@
 // Replays a sample of the Rust's answers, which stands in standard input, a call to a line: our functions must give the same. Each line
 // is then replayed with one digit changed right of its sign, which must be noticed: a comparison that can't fail would show nothing. What
-// reads and compares tokens promises an equation (`text`, `words::same`); the rest is safe and ends, and what it is worth is run.
+// reads and compares tokens promises an equation (`tokens`, `text`); the rest is safe and ends, and what it is worth is run.
 #![tactic(auto)]
 
-ghost use Rattle.std.specs.Prelude.{◌<◌, ◌≤◌};
+ghost use Rattle.std.specs.Prelude.{◌<◌, ◌≤◌, IfSome};
 
 use std::io;
 use std::io::{Read, Stdin};
 
+mod challenges;
 mod change;
 mod heads;
 mod kinds;
 mod packets;
 mod text;
-mod tokens;
 mod windows;
 mod words;
 
-// The calls' names, each in ten places.
-const NAMES: [u8; 100] =
-    *b"prefix    unprefix  sequence  additionalprivate   window    encode    decode    challenge proof     ";
+// How many calls there are, and one more for lines that are of none.
+const CALLS: usize = 11;
 
-// What was counted: lines of each call, those as the Rust, those whose change was noticed. The eleventh of each is for other lines.
-const COUNTS: usize = 33;
+// The calls that the sample has.
+#[derive(Clone, Copy, PartialEq, Eq)]
+enum Call {
+    Prefix,
+    Unprefix,
+    Sequence,
+    Additional,
+    Private,
+    Window,
+    Encode,
+    Decode,
+    Challenge,
+    Proof,
+}
+
+// Each with its name, in the order of their counts.
+const NAMES: [(&[u8], Call); 10] = [
+    (b"prefix", Call::Prefix),
+    (b"unprefix", Call::Unprefix),
+    (b"sequence", Call::Sequence),
+    (b"additional", Call::Additional),
+    (b"private", Call::Private),
+    (b"window", Call::Window),
+    (b"encode", Call::Encode),
+    (b"decode", Call::Decode),
+    (b"challenge", Call::Challenge),
+    (b"proof", Call::Proof),
+];
+
+// Of each call: its lines, those as the Rust, those whose change was noticed.
+#[derive(Drop)]
+struct Counts {
+    lines: [u64; CALLS],
+    same: [u64; CALLS],
+    noticed: [u64; CALLS],
+}
 
 // ---- one line
 
-fn is_named(name: &[u8], call: usize) -> bool
-    requires { call < 10 }
+// The place among the names of the call that the line is of.
+fn place_of(line: &[u8]) -> Option<usize>
+    ensures { IfSome result (λ at. at < 10) }
 {
-    text::same(
-        name,
-        text::token(bodies::field(&NAMES, 10 * call, 0, 10), 0),
-    )
-}
-
-// The number of the call that the line is of; 10 for none.
-fn call_of(line: &[u8]) -> usize
-    ensures { result ≤ 10 }
-{
-    let name = text::token(line, 0);
-    for call in 0..10usize {
-        if is_named(name, call) {
-            return call;
-        }
-    }
-    10
+    let name = tokens::token(line, 0);
+    NAMES.iter().position(|known| known.0 == name)
 }
 
 // 1 where the line is as the Rust, 0 where not.
-fn replayed(call: usize, line: &[u8]) -> u64
+fn replayed(call: Call, line: &[u8]) -> u64
     ensures { result ≤ 1 }
 {
     match call {
-        0 => heads::prefix(line),
-        1 => heads::unprefix(line),
-        2 => heads::sequence(line),
-        3 => heads::additional(line),
-        4 => heads::private(line),
-        5 => windows::moved(line),
-        6 => packets::encode(line),
-        7 => packets::decode(line),
-        8 => tokens::challenge(line),
-        9 => tokens::proof(line),
-        _ => 0,
+        Call::Prefix => heads::prefix(line),
+        Call::Unprefix => heads::unprefix(line),
+        Call::Sequence => heads::sequence(line),
+        Call::Additional => heads::additional(line),
+        Call::Private => heads::private(line),
+        Call::Window => windows::moved(line),
+        Call::Encode => packets::encode(line),
+        Call::Decode => packets::decode(line),
+        Call::Challenge => challenges::challenge(line),
+        Call::Proof => challenges::proof(line),
     }
 }
 
-fn add(counts: &mut [u64; COUNTS], at: usize, n: u64)
-    requires { at < 33 }
-{
-    counts[at] = std::num::wrapping_add_u64(counts[at], n);
+fn add(count: &mut u64, n: u64) {
+    *count = count.wrapping_add(n);
+}
+
+// A line of a call is replayed; one of none is counted last.
+fn take_line(line: &mut [u8], counts: &mut Counts) {
+    match place_of(line) {
+        Some(at) => take_call(NAMES[at].1, line, at, counts),
+        None => add(&mut counts.lines[10], 1),
+    }
 }
 
 // A line that is as the Rust must not be so any more once a digit is changed.
-fn take_line(line: &mut [u8], counts: &mut [u64; COUNTS]) {
-    let call = call_of(line);
-    let number = counts[call];
-    add(counts, call, 1);
+fn take_call(call: Call, line: &mut [u8], at: usize, counts: &mut Counts)
+    requires { at < 10 }
+{
+    let number = counts.lines[at];
+    add(&mut counts.lines[at], 1);
     let before = replayed(call, line);
-    add(counts, 11 + call, before);
+    add(&mut counts.same[at], before);
     if before == 1 {
         change::change(line, number);
         let after = replayed(call, line);
-        add(counts, 22 + call, 1 - after);
+        add(&mut counts.noticed[at], 1 - after);
     }
 }
 
 // ---- the file
 
 // The first at bytes are a line; one that is too long is of no call.
-fn take(line: &mut [u8], at: usize, counts: &mut [u64; COUNTS]) {
+fn take(line: &mut [u8], at: usize, counts: &mut Counts) {
     if at > 16000 {
-        add(counts, 10, 1);
+        add(&mut counts.lines[10], 1);
         return;
     }
     if at <= line.len() {
@@ -110,7 +135,7 @@ fn put(line: &mut [u8], at: usize, c: u8) -> usize {
 }
 
 // The line after a byte: how many bytes of it are there.
-fn step(c: u8, line: &mut [u8], at: usize, counts: &mut [u64; COUNTS]) -> usize {
+fn step(c: u8, line: &mut [u8], at: usize, counts: &mut Counts) -> usize {
     if c == b'\n' {
         take(line, at, counts);
         return 0;
@@ -119,10 +144,10 @@ fn step(c: u8, line: &mut [u8], at: usize, counts: &mut [u64; COUNTS]) -> usize 
 }
 
 // The bytes that were read, after those of an unfinished line; how many bytes of a line they leave unfinished.
-fn feed(read: &[u8], line: &mut [u8], used: usize, counts: &mut [u64; COUNTS]) -> usize {
+fn feed(read: &[u8], line: &mut [u8], used: usize, counts: &mut Counts) -> usize {
     let mut at = used;
-    for i in 0..read.len() {
-        at = step(read[i], line, at, counts);
+    for c in read {
+        at = step(*c, line, at, counts);
     }
     at
 }
@@ -132,7 +157,7 @@ fn read_all(
     input: &mut Stdin,
     space: &mut [u8],
     line: &mut [u8],
-    counts: &mut [u64; COUNTS],
+    counts: &mut Counts,
 ) -> io::Result<usize> {
     let mut used: usize = 0;
     for _ in 0..u64::MAX {
@@ -150,60 +175,57 @@ fn replay_all(
     input: &mut Stdin,
     space: &mut [u8],
     line: &mut [u8],
-    counts: &mut [u64; COUNTS],
+    counts: &mut Counts,
 ) -> io::Result<()> {
     let left = read_all(input, space, line, counts)?;
     if left > 0 {
-        add(counts, 10, 1);
+        add(&mut counts.lines[10], 1);
     }
     Ok(())
 }
 
 // ---- the table
 
-fn total(counts: &[u64; COUNTS], from: usize) -> u64
-    requires { from ≤ 22 }
-{
+fn total(counts: &[u64; CALLS]) -> u64 {
     let mut sum: u64 = 0;
-    for i in 0..11usize {
-        sum = std::num::wrapping_add_u64(sum, counts[from + i]);
+    for count in counts {
+        sum = sum.wrapping_add(*count);
     }
     sum
-}
-
-fn say(rt: HostRuntime, text: &[u8]) -> io::Result<()> {
-    rt.write_all(text)
 }
 
 fn figures(rt: HostRuntime, lines: u64, same: u64, noticed: u64) -> io::Result<()> {
     println!(rt; ": {lines} lines, {same} as the Rust, {noticed} noticed with a digit changed")
 }
 
-fn row(rt: HostRuntime, call: usize, counts: &[u64; COUNTS]) -> io::Result<()>
-    requires { call < 10 }
-{
-    say(rt, text::token(bodies::field(&NAMES, 10 * call, 0, 10), 0))?;
-    figures(rt, counts[call], counts[11 + call], counts[22 + call])
-}
-
-fn rows(rt: HostRuntime, counts: &[u64; COUNTS]) -> io::Result<()> {
-    for call in 0..10usize {
-        row(rt, call, counts)?;
+fn rows(rt: HostRuntime, counts: &Counts) -> io::Result<()> {
+    for (call, known) in NAMES.iter().enumerate() {
+        rt.write_all(known.0)?;
+        figures(
+            rt,
+            counts.lines[call],
+            counts.same[call],
+            counts.noticed[call],
+        )?;
     }
     Ok(())
 }
 
 fn main(rt: HostRuntime) -> io::Result<()> {
-    let mut counts = [0u64; COUNTS];
+    let mut counts = Counts {
+        lines: [0; CALLS],
+        same: [0; CALLS],
+        noticed: [0; CALLS],
+    };
     let mut space = [0u8; 65536];
     let mut line = [0u8; 16384];
     replay_all(&mut rt.stdin(), &mut space, &mut line, &mut counts)?;
     rows(rt, &counts)?;
-    say(rt, b"all")?;
+    rt.write_all(b"all")?;
     figures(
         rt,
-        total(&counts, 0),
-        total(&counts, 11),
-        total(&counts, 22),
+        total(&counts.lines),
+        total(&counts.same),
+        total(&counts.noticed),
     )
 }

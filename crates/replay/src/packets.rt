@@ -44,8 +44,8 @@ pub(crate) fn is_keyed(line: &[u8], told: &[u8; 66], key: usize, nonce: usize) -
 
 fn calls_encode(line: &[u8], out: &mut [u8], desk: &mut [u64; 16], told: &mut [u8; 66]) {
     let mut space = [0u8; text::ROOM];
-    let n = text::bytes(line, 4, &mut space, 0);
-    let key = text::key(line, 6);
+    let n = tokens::bytes(line, 4, &mut space, 0);
+    let key = tokens::array::<32>(line, 6);
     let keyed = text::is_there(line, 6);
     calls::pump_encode(
         out,
@@ -108,7 +108,7 @@ fn seals(line: &[u8], out: &mut [u8], start: usize, end: usize) -> bool {
         if text::size(line, 9) != end - start {
             return false;
         }
-        text::bytes(line, 9, out, start);
+        tokens::bytes(line, 9, out, start);
     }
     true
 }
@@ -171,7 +171,7 @@ pub(crate) fn encode(line: &[u8]) -> u64
 {
     if kinds::is_shaped(line, b"oNNBnKnBBY=nNBBBB") {
         let mut space = [0u8; text::ROOM];
-        let n = text::bytes(line, 8, &mut space, 0);
+        let n = tokens::bytes(line, 8, &mut space, 0);
         return text::bit(encodes(line, &mut space[..n]));
     }
     0
@@ -283,7 +283,7 @@ fn opens(line: &[u8], datagram: &mut [u8], start: usize) -> bool {
         if text::size(line, 6) != len - start - 16 {
             return false;
         }
-        text::bytes(line, 6, datagram, start);
+        tokens::bytes(line, 6, datagram, start);
     }
     true
 }
@@ -345,7 +345,7 @@ fn decodes(line: &[u8], datagram: &mut [u8]) -> bool {
     let mut window = words::window(line, 4);
     let mut desk = [0u64; 16];
     let mut told = [0u8; 66];
-    let key = text::key(line, 3);
+    let key = tokens::array::<32>(line, 3);
     calls::pump_decode(
         datagram,
         text::number(line, 2),
@@ -368,7 +368,7 @@ pub(crate) fn decode(line: &[u8]) -> u64
 {
     if kinds::is_shaped(line, b"BnKWYB=nBBNNNNNBW") {
         let mut space = [0u8; text::ROOM];
-        let n = text::bytes(line, 1, &mut space, 0);
+        let n = tokens::bytes(line, 1, &mut space, 0);
         return text::bit(decodes(line, &mut space[..n]));
     }
     0

@@ -2,9 +2,12 @@
 // the code has the Rust's, 256.
 #![tactic(auto)]
 
-ghost use Rattle.std.specs.Prelude.{◌≡◌, ◌-◌, ◌%◌, max};
+ghost use Rattle.std.specs.Prelude.{◌≡◌, ◌%◌};
+ghost use Rattle.refusal.specs.Verdicts.{verdict};
 ghost use Rattle.replay_protection.specs.Replay.{fresh, behind, repeated, spent, refusal_by, refuses, refusal, arrive};
 ghost use Rattle.replay_protection.specs.Ours.{width, window_of, protection};
+
+use refusal::{Refusal, Why};
 
 mod table;
 
@@ -26,19 +29,6 @@ pub struct ReplayProtection {
     pub received_packet: [u64; NETCODE_REPLAY_BUFFER_SIZE],
 }
 
-// How far b is below a, and 0 where it is not: no sum that could pass 2^64.
-fn below(a: u64, b: u64) -> u64
-    ensures { result ≡ a - b }
-{
-    if b < a { a - b } else { 0 }
-}
-
-fn larger(a: u64, b: u64) -> u64
-    ensures { result ≡ max a b }
-{
-    if a < b { b } else { a }
-}
-
 // The place of a sequence.
 fn index(sequence: u64) -> usize
     ensures { result ≡ sequence % width }
@@ -50,40 +40,34 @@ fn index(sequence: u64) -> usize
 fn is_behind(most: u64, sequence: u64) -> bool
     ensures { result ≡ behind width most sequence }
 {
-    below(most, sequence) >= NETCODE_REPLAY_BUFFER_SIZE as u64
+    most.saturating_sub(sequence) >= NETCODE_REPLAY_BUFFER_SIZE as u64
 }
 
 // Its place holds it, or a later one.
 fn is_repeated(held: u64, sequence: u64) -> bool
     ensures { result ≡ repeated held sequence }
 {
-    if held == EMPTY {
-        return false;
-    }
-    held >= sequence
+    held != EMPTY && held >= sequence
 }
 
 // The window's test, by the two of its words that decide.
 fn is_spent(most: u64, held: u64, sequence: u64) -> bool
     ensures { result ≡ spent width most held sequence }
 {
-    if is_behind(most, sequence) {
-        return true;
-    }
-    is_repeated(held, sequence)
+    is_behind(most, sequence) || is_repeated(held, sequence)
 }
 
-// Document 01's number for the sequence, by the same two words; 0 is accepted.
-fn refusal_by(most: u64, held: u64, sequence: u64) -> u8
-    ensures { result ≡ refusal_by width most held sequence }
+// What refuses the sequence, by the same two words.
+fn refusal_by(most: u64, held: u64, sequence: u64) -> Result<(), Refusal>
+    ensures { result ≡ verdict (refusal_by width most held sequence) }
 {
     if sequence > LAST {
-        return 5;
+        return Err(Refusal(Why::SequenceLate));
     }
     if is_spent(most, held, sequence) {
-        return 6;
+        return Err(Refusal(Why::Repeated));
     }
-    0
+    Ok(())
 }
 
 impl ReplayProtection {
@@ -103,9 +87,9 @@ impl ReplayProtection {
         is_spent(self.most_recent_sequence, held, sequence)
     }
 
-    // 5 from 2^64 - 256 on, 6 where the window refuses, 0 where it accepts.
-    pub fn refusal(self, sequence: u64) -> u8
-        ensures { result ≡ refusal width (window_of self) sequence }
+    // What refuses the sequence: 5 from 2^64 - 256 on, 6 where the window does, nothing where it accepts.
+    pub fn refusal(self, sequence: u64) -> Result<(), Refusal>
+        ensures { result ≡ verdict (refusal width (window_of self) sequence) }
     {
         let held = self.received_packet[index(sequence)];
         refusal_by(self.most_recent_sequence, held, sequence)
@@ -117,10 +101,10 @@ impl ReplayProtection {
     {
         let place = index(sequence);
         let held = self.received_packet[place];
-        if refusal_by(self.most_recent_sequence, held, sequence) != 0 {
+        if refusal_by(self.most_recent_sequence, held, sequence).is_err() {
             return self;
         }
-        self.most_recent_sequence = larger(self.most_recent_sequence, sequence);
+        self.most_recent_sequence = self.most_recent_sequence.max(sequence);
         self.received_packet[place] = sequence;
         self
     }

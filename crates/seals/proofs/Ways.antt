@@ -1,4 +1,5 @@
 -- Each way out of a call is a case of its definition, by the match, the tests and the callees' answers that led there.
+use Rattle.std.specs.Prelude.{Option, Some, None}
 use mathlib.Core.Path.{◌≡◌, refl, sym, ap, ap₂, ◌∙◌}
 use mathlib.Core.Bool.{Bool, true, false, ◌||◌, true≢false}
 use Prim.Native.Nat.{ℕ, ◌+◌, ◌-◌, ◌^◌, ◌<◌}
@@ -6,8 +7,6 @@ use native.Mathlib.Omega.{arith}
 use mathlib.Core.List.{List}
 use lib.Dec.{eqb, leb, ltb}
 use borrow.Author.Tests.{eq-eqb, ne_eqb, leb-false, eqb-false}
-use Rattle.serialize.specs.declared.Found.{Found}
-use Rattle.serialize.specs.declared.Found.TheVariants.{At, Nothing}
 use Rattle.serialize.specs.Choice.{pick}
 use Rattle.serialize.specs.Runs.{splice}
 use Rattle.serialize.specs.Le.{words}
@@ -63,24 +62,24 @@ seal_fits stage slots pending datagram out fits goal sequence end g wide =
 -- ---- waiting
 
 module _ (pending : List ℕ) (m : ℕ) (held : List ℕ) (addr : Address) (time : Time) where
-  module _ (x : Found) (found : x ≡ find_free pending m) where
-    pub place_taken : (j : ℕ) → x ≡ At j → (c : Connection) → c ≡ newcomer held addr time → (u : List ℕ) → u ≡ filled pending m j c
+  module _ (x : Option ℕ) (found : x ≡ find_free pending m) where
+    pub place_taken : (j : ℕ) → x ≡ Some j → (c : Connection) → c ≡ newcomer held addr time → (u : List ℕ) → u ≡ filled pending m j c
         → u ≡ by_place pending m held addr time (find_free pending m)
     unfolding by_place
     place_taken j g c f u h = h ∙ ap (filled pending m j) f ∙ ap (by_place pending m held addr time) (sym g ∙ found)
 
-    pub no_place : x ≡ Nothing → pending ≡ by_place pending m held addr time (find_free pending m)
+    pub no_place : x ≡ None → pending ≡ by_place pending m held addr time (find_free pending m)
     unfolding by_place
     no_place g = ap (by_place pending m held addr time) (sym g ∙ found)
 
-  module _ (x : Found) (found : x ≡ find_address pending m addr) where
-    pub times_move : (j : ℕ) → x ≡ At j → (u : List ℕ) → u ≡ put_time pending (received_at m j) time → (v : List ℕ) → v ≡ put_time u (sent_at m j) time
+  module _ (x : Option ℕ) (found : x ≡ find_address pending m addr) where
+    pub times_move : (j : ℕ) → x ≡ Some j → (u : List ℕ) → u ≡ put_time pending (received_at m j) time → (v : List ℕ) → v ≡ put_time u (sent_at m j) time
         → v ≡ waits pending m held addr time
     unfolding by_same
     times_move j g u e v f =
         f ∙ ap (λ (l : List ℕ). put_time l (sent_at m j) time) e ∙ ap (by_same pending m held addr time) (sym g ∙ found)
 
-    pub newcomer_waits : x ≡ Nothing → (u : List ℕ) → u ≡ by_place pending m held addr time (find_free pending m) → u ≡ waits pending m held addr time
+    pub newcomer_waits : x ≡ None → (u : List ℕ) → u ≡ by_place pending m held addr time (find_free pending m) → u ≡ waits pending m held addr time
     unfolding by_same
     newcomer_waits g u e = e ∙ ap (by_same pending m held addr time) (sym g ∙ found)
 
@@ -144,7 +143,7 @@ module _ (s : NetcodeServer) (slots pending held : List ℕ) (sequence end : ℕ
     unfolding sealed
     sending_sealed i g r u f = by_goal (Sending i) g (came r u pending) (ap (λ (h : Half). from_slot t h) f)
 
-    pub ending_sealed : (id : ℕ) (addr : Address) → goal ≡ Ending id addr → (r : Turn) → r ≡ closed s (ClientDisconnected id addr end 0)
+    pub ending_sealed : (id : ℕ) (addr : Address) → goal ≡ Ending id addr → (r : Turn) → r ≡ closed s (ClientDisconnected id addr end None)
         → came r slots pending ≡ sealed t held out sequence end goal
     unfolding sealed
     ending_sealed id addr g r f = by_goal (Ending id addr) g (came r slots pending) (ap (λ (x : Turn). came x slots pending) f)

@@ -1,6 +1,6 @@
 -- The host's answer to an ask to seal (document 01, "How the host answers"; "When the server says no": 17, 23, 18, 24: earlier steps stay; "How
 -- a connection lives": every denied raises the global sequence; the challenge is sent, then the global sequence rises).
-use Rattle.std.specs.Prelude.{ℕ, ◌+◌, Bool, List, length, eqb}
+use Rattle.std.specs.Prelude.{ℕ, ◌+◌, Bool, List, length, eqb, Some, None}
 use Rattle.serialize.specs.Choice.{pick}
 use Rattle.prefix.specs.Head.{fewest, prefix_byte}
 use Rattle.asks.specs.declared.Work.TheVariants as work
@@ -29,7 +29,7 @@ unsealed s (ChallengeToken addr) = closed s (Refused 24)
 unsealed s (ChallengePacket addr) = closed s (Refused 24)
 unsealed s (Connecting j i) = closed s (Refused 24)
 unsealed s (Sending i) = closed s (Refused 24)
-unsealed s (Ending id addr) = closed s (ClientDisconnected id addr 0 24)
+unsealed s (Ending id addr) = closed s (ClientDisconnected id addr 0 (Some 24))
 
 -- ---- yes
 
@@ -61,7 +61,7 @@ sealed t held out sequence end (ChallengePacket addr) =
     (waits t.pending t.server.set.pending held addr t.server.current_time)
 sealed t held out sequence end (Connecting j i) = connects t held j i sequence end
 sealed t held out sequence end (Sending i) = from_slot t (sends t.server t.slots i sequence end)
-sealed t held out sequence end (Ending id addr) = leaves t (closed t.server (ClientDisconnected id addr end 0))
+sealed t held out sequence end (Ending id addr) = leaves t (closed t.server (ClientDisconnected id addr end None))
 
 -- ---- the whole
 

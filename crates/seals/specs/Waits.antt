@@ -1,9 +1,7 @@
 -- The pending record that a challenge leaves (document 01, "How a connection lives", Request: an existing pending entry keeps its keys and id;
 -- only its two times move), and the slot that a first keep-alive leaves (Pending address: the lowest free slot takes the record, with the
 -- pending id and the challenge's user data; the window moves with it).
-use Rattle.std.specs.Prelude.{ℕ, ◌+◌, false, List, set}
-use Rattle.serialize.specs.declared.Found.{Found}
-use Rattle.serialize.specs.declared.Found.TheVariants.{At, Nothing}
+use Rattle.std.specs.Prelude.{ℕ, ◌+◌, false, List, set, Option, Some, None}
 use Rattle.serialize.specs.Runs.{splice}
 use Rattle.serialize.specs.Le.{words}
 use Rattle.times.specs.declared.Time.{Time}
@@ -34,14 +32,14 @@ newcomer held addr now = record {
 }
 
 -- the lowest free place takes it. Where none is free, which only a table altered by other hands is now, nobody waits.
-unfoldable pub by_place : List ℕ → ℕ → List ℕ → Address → Time → Found → List ℕ
-by_place pending m held addr now (At j) = filled pending m j (newcomer held addr now)
-by_place pending m held addr now Nothing = pending
+unfoldable pub by_place : List ℕ → ℕ → List ℕ → Address → Time → Option ℕ → List ℕ
+by_place pending m held addr now (Some j) = filled pending m j (newcomer held addr now)
+by_place pending m held addr now None = pending
 
 -- the place that the address has already: its two times move
-unfoldable pub by_same : List ℕ → ℕ → List ℕ → Address → Time → Found → List ℕ
-by_same pending m held addr now (At j) = put_time (put_time pending (received_at m j) now) (sent_at m j) now
-by_same pending m held addr now Nothing = by_place pending m held addr now (find_free pending m)
+unfoldable pub by_same : List ℕ → ℕ → List ℕ → Address → Time → Option ℕ → List ℕ
+by_same pending m held addr now (Some j) = put_time (put_time pending (received_at m j) now) (sent_at m j) now
+by_same pending m held addr now None = by_place pending m held addr now (find_free pending m)
 
 abbrev pub waits : List ℕ → ℕ → List ℕ → Address → Time → List ℕ
 waits pending m held addr now = by_same pending m held addr now (find_address pending m addr)

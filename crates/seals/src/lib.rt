@@ -2,28 +2,32 @@
 #![tactic(auto)]
 
 ghost use Rattle.std.specs.Prelude.{◌≡◌, false, length};
+ghost use Rattle.refusal.specs.Verdicts.{verdict};
 ghost use Rattle.places.specs.Layout.{Shaped};
 ghost use Rattle.server.specs.Ready.{misfits};
 ghost use Rattle.turns.specs.Outcomes.{state, came};
 ghost use Rattle.seals.specs.Seals.{seal_refusal, by_stage, seals};
 
-use server::{HELD_BYTES, NetcodeServer, Stage};
+use refusal::{Refusal, Why};
+use server::{HELD_BYTES, NetcodeServer, Stage, Wanted};
 use turns::Turn;
 
 mod sealed;
 mod waits;
 
-// The kind of answer that an ask to seal wants.
-const SEALS: u8 = 3;
-
 // 17, 23, 18.
-fn seal_refusal(server: NetcodeServer, slots: &[u64], pending: &[u64], out: usize) -> u8
-    ensures { result ≡ seal_refusal (state server slots.now pending.now) out }
+fn seal_refusal(
+    server: NetcodeServer,
+    slots: &[u64],
+    pending: &[u64],
+    out: usize,
+) -> Result<(), Refusal>
+    ensures { result ≡ verdict (seal_refusal (state server slots.now pending.now) out) }
 {
     let set = server.set;
     let ask = server.ask;
     let tables = server::both_tables_refusal(set, slots.len(), pending.len());
-    server::answer_refusal(ask, tables, SEALS, set, ask.datagram, out)
+    server::answer_refusal(ask, tables, Wanted::Seal, set, ask.datagram, out)
 }
 
 // By the ask's stage. Only a seal's gets here; the others were refused.
@@ -41,10 +45,10 @@ fn by_stage(
     let ask = server.ask;
     let stage = ask.stage;
     match stage {
-        Stage::Idle => turns::refused(server, 17),
-        Stage::Packet { .. } => turns::refused(server, 18),
-        Stage::Token { .. } => turns::refused(server, 18),
-        Stage::Challenge { .. } => turns::refused(server, 18),
+        Stage::Idle => turns::refused(server, Refusal(Why::NoAsk)),
+        Stage::Packet { .. } => turns::refused(server, Refusal(Why::AnswerUnfit)),
+        Stage::Token { .. } => turns::refused(server, Refusal(Why::AnswerUnfit)),
+        Stage::Challenge { .. } => turns::refused(server, Refusal(Why::AnswerUnfit)),
         Stage::Seal {
             goal,
             sequence,
@@ -70,8 +74,7 @@ pub fn answer_seal(
     ensures { came result slots.new pending.new ≡ seals (state server slots.old pending.old) granted held.now (length out.now) }
 {
     let room = out.len();
-    let refusal = seal_refusal(server, slots, pending, room);
-    if refusal != 0 {
+    if let Err(refusal) = seal_refusal(server, slots, pending, room) {
         return turns::refused(server, refusal);
     }
     by_stage(server, granted, slots, pending, held, room)

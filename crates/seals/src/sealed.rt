@@ -8,29 +8,29 @@ ghost use Rattle.seals.specs.Seals.{unsealed, packet_asked, connects, sends, sea
 use crate::waits;
 use addresses::Address;
 use asks::Work;
+use bodies::PacketType;
+use refusal::{Refusal, Why};
 use server::{Answer, Counters, Goal, HELD_BYTES, NetcodeServer, Stage};
 use turns::Turn;
-
-// Type 2.
-const CHALLENGE: u8 = 2;
 
 // 24; a slot that was being ended is empty, and no packet comes.
 pub fn unsealed(server: NetcodeServer, goal: Goal) -> Turn
     ensures { result ≡ unsealed server goal }
 {
+    let refusal = Refusal(Why::NotSealed);
     match goal {
-        Goal::Denied { .. } => turns::closed(server, Answer::Refused(24)),
-        Goal::ChallengeToken { .. } => turns::closed(server, Answer::Refused(24)),
-        Goal::ChallengePacket { .. } => turns::closed(server, Answer::Refused(24)),
-        Goal::Connecting { .. } => turns::closed(server, Answer::Refused(24)),
-        Goal::Sending { .. } => turns::closed(server, Answer::Refused(24)),
+        Goal::Denied { .. } => turns::closed(server, Answer::Refused(refusal)),
+        Goal::ChallengeToken { .. } => turns::closed(server, Answer::Refused(refusal)),
+        Goal::ChallengePacket { .. } => turns::closed(server, Answer::Refused(refusal)),
+        Goal::Connecting { .. } => turns::closed(server, Answer::Refused(refusal)),
+        Goal::Sending { .. } => turns::closed(server, Answer::Refused(refusal)),
         Goal::Ending { client_id, addr } => turns::closed(
             server,
             Answer::ClientDisconnected {
                 client_id,
                 addr,
                 end: 0,
-                refusal: 24,
+                refusal: Some(refusal),
             },
         ),
     }
@@ -62,7 +62,7 @@ fn ask_packet(
 {
     let set = server.set;
     let open_ask = server.ask;
-    let prefix_byte = prefix::encode_prefix(CHALLENGE, sequence);
+    let prefix_byte = prefix::encode_prefix(PacketType::Challenge.to_u8(), sequence);
     let start = 1 + prefix::sequence_bytes_required(sequence);
     let ask = asks::packet_ask(
         Work::Seal,
@@ -162,7 +162,7 @@ pub fn sealed(
                 client_id,
                 addr,
                 end,
-                refusal: 0,
+                refusal: None,
             },
         ),
     }

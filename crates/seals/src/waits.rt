@@ -8,7 +8,6 @@ ghost use Rattle.seals.specs.Waits.{newcomer, by_place, waits, sent_under, conne
 use addresses::Address;
 use records::Connection;
 use replay_protection::ReplayProtection;
-use serialize::Found;
 use server::HELD_BYTES;
 use times::Time;
 
@@ -38,11 +37,11 @@ fn take_place(pending: &mut [u64], m: usize, held: &[u8; HELD_BYTES], addr: Addr
     ensures { pending.new ≡ by_place pending.old m held.now addr time (find_free pending.old m) }
 {
     match places::find_free(pending, m) {
-        Found::At(j) => {
+        Some(j) => {
             let connection = newcomer(held, addr, time);
             records::fill(pending, m, j, connection);
         }
-        Found::Nothing => {}
+        None => {}
     }
 }
 
@@ -52,11 +51,11 @@ pub fn wait(pending: &mut [u64], m: usize, held: &[u8; HELD_BYTES], addr: Addres
     ensures { pending.new ≡ waits pending.old m held.now addr time }
 {
     match places::find_by_address(pending, m, addr) {
-        Found::At(j) => {
+        Some(j) => {
             records::set_received_time(pending, m, j, time);
             records::set_sent_time(pending, m, j, time);
         }
-        Found::Nothing => take_place(pending, m, held, addr, time),
+        None => take_place(pending, m, held, addr, time),
     }
 }
 

@@ -1,4 +1,5 @@
 -- Each way out of a call is a case of its definition, by the tests and the callees' answers that led there.
+use Rattle.std.specs.Prelude.{Option, Some, None}
 use mathlib.Core.Path.{◌≡◌, refl, sym, ap, ap₂, ◌∙◌}
 use mathlib.Core.Bool.{Bool, true, false}
 use Prim.Native.Nat.{ℕ, ◌+◌, ◌-◌, ◌^◌, ◌≤◌, ◌<◌}
@@ -6,9 +7,7 @@ use native.Mathlib.Omega.{arith}
 use mathlib.Core.List.{List, []}
 use lib.ListN.{length}
 use lib.Dec.{eqb, ltb}
-use borrow.Author.Tests.{eq-eqb, ne_eqb, lt-ltb, le-ltb, ltb-true, ltb-false}
-use Rattle.serialize.specs.declared.Found.{Found}
-use Rattle.serialize.specs.declared.Found.TheVariants as found
+use borrow.Author.Tests.{eq-eqb, ne_eqb, eqb-true, eqb-false, lt-ltb, le-ltb, ltb-true, ltb-false}
 use Rattle.serialize.specs.Choice.{pick}
 use Rattle.serialize.proofs.Choice.{by_test}
 use Rattle.prefix.specs.Head.{fewest}
@@ -124,11 +123,11 @@ module _ (s : NetcodeServer) (id : ℕ) (slots : List ℕ) (i : ℕ) (out : List
   to_end key x = sealing (seal_ask Disconnect s.set.protocol_id key x) (seal_out out Disconnect x)
 
   module _ (addr : Address) (key : List ℕ) (sequence : ℕ) (a : Address) (there : a ≡ addr) (x : ℕ) (counted : x ≡ sequence) where
-    pub ending_late : x ≡ 2 ^ 64 - 1 → (u : List ℕ) → u ≡ emptied slots i → (r : Turn) → r ≡ answered s (ClientDisconnected id a 0 15)
+    pub ending_late : x ≡ 2 ^ 64 - 1 → (u : List ℕ) → u ≡ emptied slots i → (r : Turn) → r ≡ answered s (ClientDisconnected id a 0 (Some 15))
         → served r u out ≡ ended_under addr key sequence
     unfolding ending_under pick
     ending_late l u e r f =
-        ap₂ (λ (y : Turn) (z : List ℕ). served y z out) (f ∙ ap (λ (y : Address). answered s (ClientDisconnected id y 0 15)) there) e
+        ap₂ (λ (y : Turn) (z : List ℕ). served y z out) (f ∙ ap (λ (y : Address). answered s (ClientDisconnected id y 0 (Some 15))) there) e
         ∙ simp (eq-eqb sequence (2 ^ 64 - 1) (sym counted ∙ l))
 
     module _ (more : x ≡ 2 ^ 64 - 1 → ⊥) (b : ℕ) (sized : b ≡ need (kind_of Disconnect) 0 x) where
@@ -185,8 +184,15 @@ pub ready_shaped : (s : NetcodeServer) (slots : List ℕ) (r : ℕ) → r ≡ re
 ready_shaped s slots r tested z =
     slots_shaped s.set slots (call_free s.ask (slots_refusal s.set (length slots)) (sym tested ∙ z)).1
 
-pub found_below : (slots : List ℕ) (n id : ℕ) → Shaped slots n → (f : Found) → f ≡ find_id slots n id → (i : ℕ) → f ≡ found.At i → i < n
+pub found_below : (slots : List ℕ) (n id : ℕ) → Shaped slots n → (f : Option ℕ) → f ≡ find_id slots n id → (i : ℕ) → f ≡ Some i → i < n
 found_below slots n id shape f e i g = ((id_found slots n shape id i).0 (sym e ∙ g)).below
+
+-- a search finds one place, or none
+pub one_found : (f : Option ℕ) → f ≡ None → (i : ℕ) → f ≡ Some i → ⊥
+one_found f e i g = let z : ◌≡◌ {A = ℕ} 0 1 = cc in omega (arith, z)
+
+pub same_found : (f : Option ℕ) (i : ℕ) → f ≡ Some i → (j : ℕ) → f ≡ Some j → i ≡ j
+same_found f i e j g = cc
 
 module _ (s : NetcodeServer) (slots : List ℕ) (id : ℕ) (payload out : List ℕ) (r : ℕ) (tested : r ≡ payload_refusal s (length slots) (length payload)) where
   pub generate_refused : (r ≡ 0 → ⊥) → (t : Turn) → t ≡ refused s r → spoken t out ≡ generated s slots id payload out
@@ -206,18 +212,18 @@ module _ (s : NetcodeServer) (slots : List ℕ) (id : ℕ) (payload out : List �
     pub generate_small : length payload ≤ 1300
     generate_small = only_within (length payload) both.1
 
-    module _ (f : Found) (searched : f ≡ find_id slots s.set.slots id) where
+    module _ (f : Option ℕ) (searched : f ≡ find_id slots s.set.slots id) where
       onto : by_client s slots payload out f ≡ generated s slots id payload out
       unfolding generated pick
       onto =
           ap (by_client s slots payload out) searched
           ∙ simp (eq-eqb (payload_refusal s (length slots) (length payload)) 0 (sym tested ∙ zero))
 
-      pub generate_found : (i : ℕ) → f ≡ found.At i → (x : Spoken) → x ≡ sending s slots i Payload payload out → x ≡ generated s slots id payload out
+      pub generate_found : (i : ℕ) → f ≡ Some i → (x : Spoken) → x ≡ sending s slots i Payload payload out → x ≡ generated s slots id payload out
       unfolding by_client
       generate_found i e x g = g ∙ ap (by_client s slots payload out) (sym e) ∙ onto
 
-      pub generate_missed : f ≡ found.Nothing → (t : Turn) → t ≡ refused s 22 → spoken t out ≡ generated s slots id payload out
+      pub generate_missed : f ≡ None → (t : Turn) → t ≡ refused s 22 → spoken t out ≡ generated s slots id payload out
       unfolding by_client
       generate_missed e t g = ap (λ (y : Turn). spoken y out) g ∙ ap (by_client s slots payload out) (sym e) ∙ onto
 
@@ -283,9 +289,9 @@ module _ (s : NetcodeServer) (slots : List ℕ) (id : ℕ) (out : List ℕ) (r :
     attend_refused true = unready ∙ simp not_0
     attend_refused false = unready ∙ simp not_0
 
-  module _ (zero : r ≡ 0) (f : Found) (searched : f ≡ find_id slots s.set.slots id) where
+  module _ (zero : r ≡ 0) (f : Option ℕ) (searched : f ≡ find_id slots s.set.slots id) where
     -- by what the search found
-    abbrev by_found_lem : Bool → Found → Served
+    abbrev by_found_lem : Bool → Option ℕ → Served
     by_found_lem away x = pick away (ended_at s id slots out x) (updated_at s id slots out x)
 
     reached : (away : Bool) → by_found_lem away f ≡ attended s slots id away out
@@ -293,14 +299,37 @@ module _ (s : NetcodeServer) (slots : List ℕ) (id : ℕ) (out : List ℕ) (r :
     reached true = ap (ended_at s id slots out) searched ∙ simp (eq-eqb (ready_refusal s (length slots)) 0 (sym tested ∙ zero))
     reached false = ap (updated_at s id slots out) searched ∙ simp (eq-eqb (ready_refusal s (length slots)) 0 (sym tested ∙ zero))
 
-    pub attend_found : (i : ℕ) → f ≡ found.At i → (x : Served) (away : Bool) → x ≡ slot_attended s id slots i away out → x ≡ attended s slots id away out
+    pub attend_found : (i : ℕ) → f ≡ Some i → (x : Served) (away : Bool) → x ≡ slot_attended s id slots i away out → x ≡ attended s slots id away out
     unfolding updated_at ended_at
     attend_found i e x away g = g ∙ ap (by_found_lem away) (sym e) ∙ reached away
 
-    nobody : (away : Bool) → idly s slots out ≡ by_found_lem away found.Nothing
+    nobody : (away : Bool) → idly s slots out ≡ by_found_lem away None
     unfolding pick updated_at ended_at
     nobody true = refl
     nobody false = refl
 
-    pub attend_missed : f ≡ found.Nothing → (t : Turn) → t ≡ answered s Nothing → (away : Bool) → served t slots out ≡ attended s slots id away out
+    pub attend_missed : f ≡ None → (t : Turn) → t ≡ answered s Nothing → (away : Bool) → served t slots out ≡ attended s slots id away out
     attend_missed e t g away = ap (λ (y : Turn). served y slots out) g ∙ nobody away ∙ ap (by_found_lem away) (sym e) ∙ reached away
+
+-- what a step came to, of the slots and the output that it was lent
+pub step_told : (r : Turn) (f : List ℕ → List ℕ → Served) (t o t' o' slots out slots' out' : List ℕ) → t ≡ slots → o ≡ out → t' ≡ slots' → o' ≡ out'
+    → served r t' o' ≡ f t o → served r slots' out' ≡ f slots out
+step_told r f t o t' o' slots out slots' out' e g h k m = sym (ap₂ (λ (x y : List ℕ). served r x y) h k) ∙ m ∙ ap₂ f e g
+
+-- what the tests and the search say settles the call
+module _ (s : NetcodeServer) (slots : List ℕ) (id : ℕ) (out : List ℕ) (x : Served) (away : Bool)
+    (unready : (ready_refusal s (length slots) ≡ 0 → ⊥) → x ≡ served (refused s (ready_refusal s (length slots))) slots out)
+    (missed : ready_refusal s (length slots) ≡ 0 → find_id slots s.set.slots id ≡ None → x ≡ idly s slots out)
+    (found : ready_refusal s (length slots) ≡ 0 → (i : ℕ) → find_id slots s.set.slots id ≡ Some i → x ≡ slot_attended s id slots i away out) where
+  searched_lem : ready_refusal s (length slots) ≡ 0 → (f : Option ℕ) → find_id slots s.set.slots id ≡ f → x ≡ attended s slots id away out
+  searched_lem z None e =
+      missed z e ∙ attend_missed s slots id out (ready_refusal s (length slots)) refl z (find_id slots s.set.slots id) refl e (answered s Nothing) refl away
+  searched_lem z (Some i) e =
+      attend_found s slots id out (ready_refusal s (length slots)) refl z (find_id slots s.set.slots id) refl i e x away (found z i e)
+
+  pub attend_decides : x ≡ attended s slots id away out
+  attend_decides =
+      by_test (eqb (ready_refusal s (length slots)) 0)
+      (λ b. searched_lem (eqb-true (ready_refusal s (length slots)) 0 b) (find_id slots s.set.slots id) refl)
+      (λ b. let n = eqb-false (ready_refusal s (length slots)) 0 b in
+      unready n ∙ attend_refused s slots id out (ready_refusal s (length slots)) refl n (refused s (ready_refusal s (length slots))) refl away)

@@ -1,17 +1,16 @@
 -- `update_client` and `disconnect` (document 01, "How a connection lives", `update_client`: timeout over 0 and received + timeout < now: disconnect;
 -- otherwise sent + 250 ms <= now: keep-alive; sums are exact. "When the server says no": 16, 23; an unknown id is nothing).
-use Rattle.std.specs.Prelude.{ℕ, ◌%◌, ◌^◌, Bool, ◌&&◌, List, [], length, eqb, ltb}
-use Rattle.serialize.specs.declared.Found.{Found}
-use Rattle.serialize.specs.declared.Found.TheVariants.{At}
-use Rattle.serialize.specs.declared.Found.TheVariants.{Nothing as NotFound}
+use Rattle.std.specs.Prelude.{ℕ, ◌%◌, ◌^◌, ◌≡◌, ◌<◌, Bool, ◌&&◌, List, [], length, eqb, ltb, Option, Some, None}
+use Rattle.std.specs.Borrow.{MutBor}
 use Rattle.serialize.specs.Choice.{pick}
 use Rattle.times.specs.declared.Time.{Time}
 use Rattle.times.specs.Times.{past, due}
-use Rattle.places.specs.Layout.{word_of, received_at, sent_at, timeout_at}
+use Rattle.places.specs.Layout.{Shaped, word_of, received_at, sent_at, timeout_at}
 use Rattle.places.specs.Finds.{find_id}
 use Rattle.records.specs.Records.{time_at}
 use Rattle.server.specs.declared.NetcodeServer.{NetcodeServer}
 use Rattle.server.specs.declared.Answer.TheVariants.{Nothing}
+use Rattle.turns.specs.declared.Turn.{Turn}
 use Rattle.turns.specs.Outcomes.{answered, refused}
 use Rattle.turns.specs.Packets.{keep_alive, Spoken}
 use Rattle.sending.specs.Packets.{ready_refusal, sending, Served, served, ending}
@@ -53,13 +52,13 @@ slot_updated s id slots i out =
     (idly s slots out))
 
 -- by the lowest slot with the id
-unfoldable pub updated_at : NetcodeServer → ℕ → List ℕ → List ℕ → Found → Served
-updated_at s id slots out (At i) = slot_updated s id slots i out
-updated_at s id slots out NotFound = idly s slots out
+unfoldable pub updated_at : NetcodeServer → ℕ → List ℕ → List ℕ → Option ℕ → Served
+updated_at s id slots out (Some i) = slot_updated s id slots i out
+updated_at s id slots out None = idly s slots out
 
-unfoldable pub ended_at : NetcodeServer → ℕ → List ℕ → List ℕ → Found → Served
-ended_at s id slots out (At i) = ending s id slots i out
-ended_at s id slots out NotFound = idly s slots out
+unfoldable pub ended_at : NetcodeServer → ℕ → List ℕ → List ℕ → Option ℕ → Served
+ended_at s id slots out (Some i) = ending s id slots i out
+ended_at s id slots out None = idly s slots out
 
 -- ---- the calls
 
@@ -79,3 +78,30 @@ slot_attended s id slots i away out = pick away (ending s id slots i out) (slot_
 
 abbrev pub attended : NetcodeServer → List ℕ → ℕ → Bool → List ℕ → Served
 attended s slots id away out = pick away (disconnected s slots id out) (client_updated s slots id out)
+
+-- ---- a step that a call takes of the lowest slot with the id. `pre` says when it may be taken, `post` what it may come to, of the slots and the
+-- output that it is lent.
+
+abbrev pub Askable : (NetcodeServer → ℕ → MutBor (List ℕ) → ℕ → MutBor (List ℕ) → Type 0) → NetcodeServer → ℕ → List ℕ → List ℕ → Type 0
+Askable pre s id slots out =
+    (i : ℕ) (t o : MutBor (List ℕ)) → t.now ≡ slots → o.now ≡ out → Shaped slots s.set.slots → i < s.set.slots → pre s id t i o
+
+-- the step of slot i came to r, and left slots and output so
+pub record Stepped (post : NetcodeServer → ℕ → MutBor (List ℕ) → ℕ → MutBor (List ℕ) → Turn → MutBor (List ℕ) → MutBor (List ℕ) → Type 0)
+    (s : NetcodeServer) (id : ℕ) (slots : List ℕ) (i : ℕ) (out : List ℕ) (r : Turn) (slots' out' : List ℕ) : Type 0 where
+  pub lent_slots : MutBor (List ℕ)
+  pub lent_out : MutBor (List ℕ)
+  pub left_slots : MutBor (List ℕ)
+  pub left_out : MutBor (List ℕ)
+  pub slots_before : lent_slots.now ≡ slots
+  pub out_before : lent_out.now ≡ out
+  pub slots_after : left_slots.now ≡ slots'
+  pub out_after : left_out.now ≡ out'
+  pub met : post s id lent_slots i lent_out r left_slots left_out
+
+-- 16, 23; nothing for an unknown id; else the step
+pub record Attends (post : NetcodeServer → ℕ → MutBor (List ℕ) → ℕ → MutBor (List ℕ) → Turn → MutBor (List ℕ) → MutBor (List ℕ) → Type 0)
+    (s : NetcodeServer) (id : ℕ) (slots out : List ℕ) (r : Turn) (slots' out' : List ℕ) : Type 0 where
+  pub unready : (ready_refusal s (length slots) ≡ 0 → ⊥) → served r slots' out' ≡ served (refused s (ready_refusal s (length slots))) slots out
+  pub missed : ready_refusal s (length slots) ≡ 0 → find_id slots s.set.slots id ≡ None → served r slots' out' ≡ idly s slots out
+  pub found : ready_refusal s (length slots) ≡ 0 → (i : ℕ) → find_id slots s.set.slots id ≡ Some i → Stepped post s id slots i out r slots' out'

@@ -1,8 +1,6 @@
 -- What the server sends a connected pump of its own accord (document 01, "When the server says no", for sending: 16, 23, 21, 22, 15, 14; 14 is for
 -- the packet's whole need; "How the host answers": the packet stands in the output from its start, to be sealed there).
-use Rattle.std.specs.Prelude.{ℕ, ◌-◌, ◌^◌, List, length, eqb, ltb}
-use Rattle.serialize.specs.declared.Found.{Found}
-use Rattle.serialize.specs.declared.Found.TheVariants.{At, Nothing}
+use Rattle.std.specs.Prelude.{ℕ, ◌-◌, ◌^◌, List, length, eqb, ltb, Option, Some, None}
 use Rattle.serialize.specs.Choice.{pick}
 use Rattle.bodies.specs.declared.Packet.{Packet}
 use Rattle.bodies.specs.declared.Packet.TheVariants.{Payload, Disconnect}
@@ -58,9 +56,9 @@ abbrev pub payload_refusal : NetcodeServer → ℕ → ℕ → ℕ
 payload_refusal s slots payload = before (ready_refusal s slots) (limit_refusal payload)
 
 -- by the lowest slot with the id: 22 where there is none
-unfoldable pub by_client : NetcodeServer → List ℕ → List ℕ → List ℕ → Found → Spoken
-by_client s slots payload out (At i) = sending s slots i Payload payload out
-by_client s slots payload out Nothing = spoken (refused s 22) out
+unfoldable pub by_client : NetcodeServer → List ℕ → List ℕ → List ℕ → Option ℕ → Spoken
+by_client s slots payload out (Some i) = sending s slots i Payload payload out
+by_client s slots payload out None = spoken (refused s 22) out
 
 unfoldable pub generated : NetcodeServer → List ℕ → ℕ → List ℕ → List ℕ → Spoken
 generated s slots id payload out =
@@ -82,7 +80,7 @@ served r slots out = record { turn = r; slots = slots; out = out }
 -- whatever the host answers.
 unfoldable pub ending_under : NetcodeServer → ℕ → List ℕ → ℕ → Address → List ℕ → ℕ → List ℕ → Served
 ending_under s id slots i addr key sequence out =
-    pick (eqb sequence (2 ^ 64 - 1)) (served (answered s (ClientDisconnected id addr 0 15)) (emptied slots i) out)
+    pick (eqb sequence (2 ^ 64 - 1)) (served (answered s (ClientDisconnected id addr 0 (Some 15))) (emptied slots i) out)
     (pick (ltb (length out) (need (kind_of Disconnect) 0 sequence)) (served (refused s 14) slots out)
     (served
     (asking s (Seal (Ending id addr) sequence (need (kind_of Disconnect) 0 sequence)) 0 (length out)

@@ -3,10 +3,9 @@ ghost use Rattle.std.specs.Prelude.{◌≡◌, ◌<◌, []};
 ghost use Rattle.places.specs.Layout.{Shaped};
 ghost use Rattle.turns.specs.Packets.{keep_alive, spoken};
 ghost use Rattle.sending.specs.Packets.{sending, served};
-ghost use Rattle.sending.specs.Clients.{overdue, silent, slot_updated, client_updated, disconnected, slot_attended, attended};
+ghost use Rattle.sending.specs.Clients.{overdue, silent, slot_updated, client_updated, disconnected, Askable, Attends};
 
 use crate::packets;
-use serialize::Found;
 use server::{Answer, NetcodeServer};
 use turns::Turn;
 
@@ -72,42 +71,24 @@ fn update_slot(
     turns::answered(server, Answer::Nothing)
 }
 
-// Slot i is ended if its client is sent away, and else updated.
-fn attend_slot(
+// The step is taken of the lowest slot with the id: 16, 23; an unknown id is nothing.
+fn attend<F: FnOnce(NetcodeServer, u64, &mut [u64], usize, &mut [u8]) -> Turn>(
     server: NetcodeServer,
     client_id: u64,
     slots: &mut [u64],
-    i: usize,
-    away: bool,
     out: &mut [u8],
+    step: F,
 ) -> Turn
-    requires { Shaped slots.old server.set.slots × (i < server.set.slots) }
-    ensures { served result slots.new out.new ≡ slot_attended server client_id slots.old i away out.old }
+    requires { Askable (F.pre step) server client_id slots.old out.old }
+    ensures { Attends (F.post step) server client_id slots.old out.old result slots.new out.new }
 {
-    if away {
-        return packets::end(server, client_id, slots, i, out);
-    }
-    update_slot(server, client_id, slots, i, out)
-}
-
-// The lowest slot with the id: 16, 23; an unknown id is nothing.
-fn attend(
-    server: NetcodeServer,
-    client_id: u64,
-    slots: &mut [u64],
-    away: bool,
-    out: &mut [u8],
-) -> Turn
-    ensures { served result slots.new out.new ≡ attended server slots.old client_id away out.old }
-{
-    let refusal = crate::ready_refusal(server, slots.len());
-    if refusal != 0 {
+    if let Err(refusal) = crate::ready_refusal(server, slots.len()) {
         return turns::refused(server, refusal);
     }
     let set = server.set;
     match places::find_by_id(slots, set.slots, client_id) {
-        Found::At(i) => attend_slot(server, client_id, slots, i, away, out),
-        Found::Nothing => turns::answered(server, Answer::Nothing),
+        Some(i) => step(server, client_id, slots, i, out),
+        None => turns::answered(server, Answer::Nothing),
     }
 }
 
@@ -120,12 +101,12 @@ pub fn update_client(
 ) -> Turn
     ensures { served result slots.new out.new ≡ client_updated server slots.old client_id out.old }
 {
-    attend(server, client_id, slots, false, out)
+    attend(server, client_id, slots, out, update_slot)
 }
 
 // A client sent away: 16, 23; an unknown id is nothing; 15, 14, or an ask to seal.
 pub fn disconnect(server: NetcodeServer, client_id: u64, slots: &mut [u64], out: &mut [u8]) -> Turn
     ensures { served result slots.new out.new ≡ disconnected server slots.old client_id out.old }
 {
-    attend(server, client_id, slots, true, out)
+    attend(server, client_id, slots, out, packets::end)
 }

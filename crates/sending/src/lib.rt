@@ -2,8 +2,10 @@
 #![tactic(auto)]
 
 ghost use Rattle.std.specs.Prelude.{◌≡◌};
+ghost use Rattle.refusal.specs.Verdicts.{verdict};
 ghost use Rattle.sending.specs.Packets.{ready_refusal};
 
+use refusal::Refusal;
 use server::NetcodeServer;
 
 mod clients;
@@ -14,8 +16,8 @@ pub use clients::{disconnect, update_client};
 pub use payloads::generate_payload_packet;
 
 // 16, 23.
-fn ready_refusal(server: NetcodeServer, slots: usize) -> u8
-    ensures { result ≡ ready_refusal server slots }
+fn ready_refusal(server: NetcodeServer, slots: usize) -> Result<(), Refusal>
+    ensures { result ≡ verdict (ready_refusal server slots) }
 {
     let set = server.set;
     let ask = server.ask;

@@ -9,6 +9,7 @@ ghost use Rattle.sending.specs.Packets.{sending, served, ending};
 
 use asks::NETCODE_MAC_BYTES;
 use bodies::{Packet, PacketType};
+use refusal::{Refusal, Why};
 use server::{Answer, Goal, NetcodeServer, Stage};
 use turns::{MOST, Turn};
 
@@ -36,11 +37,11 @@ pub fn send(
     let n = set.slots;
     let sequence = records::sequence(slots, n, i);
     if sequence == MOST {
-        return turns::refused(server, 15);
+        return turns::refused(server, Refusal(Why::CounterSpent));
     }
     let len = out.len();
     if len < packet_bytes(packet.packet_type(), bytes.len(), sequence) {
-        return turns::refused(server, 14);
+        return turns::refused(server, Refusal(Why::OutputShort));
     }
     let key = records::send_key(slots, n, i);
     let ask = turns::write_packet_with(out, packet, bytes, set.protocol_id, key, sequence);
@@ -76,13 +77,13 @@ pub fn end(
                 client_id,
                 addr,
                 end: 0,
-                refusal: 15,
+                refusal: Some(Refusal(Why::CounterSpent)),
             },
         );
     }
     let len = out.len();
     if len < packet_bytes(PacketType::Disconnect, 0, sequence) {
-        return turns::refused(server, 14);
+        return turns::refused(server, Refusal(Why::OutputShort));
     }
     let key = records::send_key(slots, n, i);
     records::empty(slots, n, i);

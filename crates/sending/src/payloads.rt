@@ -1,11 +1,12 @@
 // A payload of the host's, for a connected pump.
 ghost use Rattle.std.specs.Prelude.{◌≡◌};
+ghost use Rattle.refusal.specs.Verdicts.{verdict};
 ghost use Rattle.turns.specs.Packets.{spoken};
 ghost use Rattle.sending.specs.Packets.{payload_refusal, generated};
 
 use crate::packets;
 use bodies::Packet;
-use serialize::Found;
+use refusal::{Refusal, Why};
 use server::NetcodeServer;
 use turns::Turn;
 
@@ -13,17 +14,14 @@ use turns::Turn;
 const NETCODE_MAX_PAYLOAD_BYTES: usize = 1300;
 
 // 16, 23, 21.
-fn payload_refusal(server: NetcodeServer, slots: usize, payload: usize) -> u8
-    ensures { result ≡ payload_refusal server slots payload }
+fn payload_refusal(server: NetcodeServer, slots: usize, payload: usize) -> Result<(), Refusal>
+    ensures { result ≡ verdict (payload_refusal server slots payload) }
 {
-    let refusal = crate::ready_refusal(server, slots);
-    if refusal != 0 {
-        return refusal;
-    }
+    crate::ready_refusal(server, slots)?;
     if payload > NETCODE_MAX_PAYLOAD_BYTES {
-        return 21;
+        return Err(Refusal(Why::PayloadLong));
     }
-    0
+    Ok(())
 }
 
 // The payload as a packet to the lowest slot with the id: 16, 23, 21, 22, 15, 14, or an ask to seal it.
@@ -36,13 +34,12 @@ pub fn generate_payload_packet(
 ) -> Turn
     ensures { spoken result out.new ≡ generated server slots.now client_id payload.now out.old }
 {
-    let refusal = payload_refusal(server, slots.len(), payload.len());
-    if refusal != 0 {
+    if let Err(refusal) = payload_refusal(server, slots.len(), payload.len()) {
         return turns::refused(server, refusal);
     }
     let set = server.set;
     match places::find_by_id(slots, set.slots, client_id) {
-        Found::At(i) => packets::send(server, slots, i, Packet::Payload, payload, out),
-        Found::Nothing => turns::refused(server, 22),
+        Some(i) => packets::send(server, slots, i, Packet::Payload, payload, out),
+        None => turns::refused(server, Refusal(Why::NoSuchClient)),
     }
 }

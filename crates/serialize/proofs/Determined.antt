@@ -8,11 +8,9 @@ use Rattle.serialize.proofs.bytes.same_bytes.Reads as same_bytes
 use Rattle.serialize.proofs.number.write_u16.Reads as write-u16
 use Rattle.serialize.proofs.number.write_u32.Reads as write-u32
 use Rattle.serialize.proofs.number.write_u64.Reads as write-u64
-use Rattle.serialize.proofs.bytes.copy_bytes.Reads as copy-bytes
-use Rattle.serialize.proofs.words.copy_words.Reads as copy-words
-use Rattle.serialize.proofs.bytes.zero_bytes.Reads as zero_bytes
-use Rattle.serialize.proofs.words.zero_words.Reads as zero-words
 use Rattle.serialize.proofs.words.pack_words.Reads as pack-words
+use Rattle.serialize.proofs.runs.copy.Reads as copy
+use Rattle.serialize.proofs.runs.fill.Reads as fill
 use Rattle.serialize.proofs.words.unpack_words.Reads as unpack-words
 
 -- the one law
@@ -44,20 +42,16 @@ write_u32_determined κs a x y e f p q = coincide p q
 pub write_u64_determined : (κs : _) (a : _) (x y : _) (e f : _) → write-u64.Post κs a x e → write-u64.Post κs a y f → e.0.now ≡ f.0.now
 write_u64_determined κs a x y e f p q = coincide p q
 
-pub copy_bytes_determined : (κs : _) (a : _) (x y : _) (e f : _) → copy-bytes.Post κs a x e → copy-bytes.Post κs a y f → e.0.now ≡ f.0.now
-copy_bytes_determined κs a x y e f p q = coincide p q
-
-pub copy_words_determined : (κs : _) (a : _) (x y : _) (e f : _) → copy-words.Post κs a x e → copy-words.Post κs a y f → e.0.now ≡ f.0.now
-copy_words_determined κs a x y e f p q = coincide p q
-
-pub zero_bytes_determined : (κs : _) (a : _) (x y : _) (e f : _) → zero_bytes.Post κs a x e → zero_bytes.Post κs a y f → e.0.now ≡ f.0.now
-zero_bytes_determined κs a x y e f p q = coincide p q
-
-pub zero_words_determined : (κs : _) (a : _) (x y : _) (e f : _) → zero-words.Post κs a x e → zero-words.Post κs a y f → e.0.now ≡ f.0.now
-zero_words_determined κs a x y e f p q = coincide p q
-
 pub pack_words_determined : (κs : _) (a : _) (x y : _) (e f : _) → pack-words.Post κs a x e → pack-words.Post κs a y f → e.0.now ≡ f.0.now
 pack_words_determined κs a x y e f p q = coincide p q
 
 pub unpack_words_determined : (κs : _) (a : _) (x y : _) (e f : _) → unpack-words.Post κs a x e → unpack-words.Post κs a y f → e.0.now ≡ f.0.now
 unpack_words_determined κs a x y e f p q = coincide p q
+
+-- at any type of elements, with what its bounds bring
+
+pub copy_determined : (T b₁ b₂ b₃ b₄ : _) (κs : _) (a : _) (x y : _) (e f : _) → copy.Post T b₁ b₂ b₃ b₄ κs a x e → copy.Post T b₁ b₂ b₃ b₄ κs a y f → e.0.now ≡ f.0.now
+copy_determined T b₁ b₂ b₃ b₄ κs a x y e f p q = coincide p q
+
+pub fill_determined : (T b₁ b₂ b₃ b₄ : _) (κs : _) (a : _) (x y : _) (e f : _) → fill.Post T b₁ b₂ b₃ b₄ κs a x e → fill.Post T b₁ b₂ b₃ b₄ κs a y f → e.0.now ≡ f.0.now
+fill_determined T b₁ b₂ b₃ b₄ κs a x y e f p q = coincide p q

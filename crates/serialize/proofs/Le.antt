@@ -4,11 +4,14 @@ use Prim.Native.Nat.{ℕ, zero, suc, ◌+◌, ◌*◌, ◌/◌, ◌%◌, ◌^◌
 use native.Mathlib.Nat.{add-zero, zero-add, suc-add, pow-suc, pow-zero, add_comm, mul_assoc, mul_comm, one-mul, div-div-eq-div-mul, div-add-mod'}
 use native.Mathlib.Omega.{arith}
 use mathlib.Core.List.{List, [], ◌∷◌, ◌++◌}
-use lib.ListN.{length, take, get_or}
-use lib.Seq.{take_at, drop-cons}
+use lib.ListN.{length, take, drop, get_or}
+use lib.Seq.{take_at, drop-cons, take-suc, take-take, take_all, length-take-le}
+use borrow.Rule.Slice.PartMut.{put_mid}
+use Rattle.std.specs.Int.{byte_at, byte_worth, bytes_low_first, sum_through}
+use Rattle.std.specs.List.{slice_index}
 use Rattle.serialize.specs.Runs.{part, splice, zeros, Below}
 use Rattle.serialize.specs.Le.{of_le, to_le}
-use Rattle.serialize.proofs.Lists.{length_part, part_add, part_splice_same, splice_then}
+use Rattle.serialize.proofs.Lists.{length_part, part_add, part_splice_same, splice_then, lent_part}
 
 -- ---- lengths and bounds
 
@@ -136,3 +139,47 @@ of_le_splice l at k v h s =
     ap (λ (j : ℕ). of_le (part (splice l at (to_le k v)) at j)) (sym n)
     ∙ ap of_le (part_splice_same l at (to_le k v) (omega arith))
     ∙ of_le_to_le k v s
+
+-- ---- a number as the library has it
+
+-- of the bytes, least first, k and one more
+sum_bytes : (bs : List ℕ) (k : ℕ) → k < length bs → sum_through (λ i. byte_worth i (slice_index bs i)) k ≡ of_le (take (suc k) bs)
+unfolding of_le
+sum_bytes [] zero h = absurd (omega arith)
+sum_bytes (b ∷ bs) zero h = sym (add-zero b)
+sum_bytes bs (suc k) h =
+    let b : ℕ = get_or bs (suc k) 0 in
+    let n : length (take (suc k) bs) ≡ suc k = length-take-le (suc k) bs (omega arith) in
+    let e : b * 256 ^ suc k ≡ 256 ^ length (take (suc k) bs) * of_le (b ∷ []) =
+    mul_comm b (256 ^ suc k) ∙ ap (λ (j : ℕ). 256 ^ j * b) (sym n) ∙ ap (λ (x : ℕ). 256 ^ length (take (suc k) bs) * x) (sym (add-zero b)) in
+    ap (λ (x : ℕ). x + b * 256 ^ suc k) (sum_bytes bs k (omega arith))
+    ∙ ap (λ (x : ℕ). of_le (take (suc k) bs) + x) e
+    ∙ sym (of_le_append (take (suc k) bs) (b ∷ []))
+    ∙ ap of_le (sym (take-suc bs (suc k) 0 h))
+
+-- chunk is the first k + 1 bytes from at on, and v the number that the library makes of it
+pub bytes_read : (l : List ℕ) (at k : ℕ) (chunk : List ℕ) (v : ℕ) → at + suc k ≤ length l → chunk ≡ take (suc k) (take (length l - at) (drop at l))
+    → v ≡ sum_through (λ i. byte_worth i (slice_index chunk i)) k → v ≡ of_le (part l at (suc k))
+bytes_read l at k chunk v h e q =
+    let p : chunk ≡ part l at (suc k) = e ∙ take-take (suc k) (length l - at) (drop at l) (omega arith) in
+    let n : length chunk ≡ suc k = ap length p ∙ length_part l at (suc k) h in
+    q ∙ sum_bytes chunk k (omega arith) ∙ ap (λ (j : ℕ). of_le (take j chunk)) (sym n) ∙ ap of_le (take_all (length chunk) chunk (omega arith) ∙ p)
+
+byte_at_is : (i v : ℕ) → byte_at i v ≡ v / 256 ^ i % 256
+byte_at_is zero v = omega (arith, pow-zero 256)
+byte_at_is (suc i) v = refl
+
+low_first : (k i v : ℕ) → bytes_low_first i k v ≡ to_le k (v / 256 ^ i)
+unfolding to_le
+low_first zero i v = refl
+low_first (suc k) i v =
+    ap (λ (x : ℕ). x ∷ bytes_low_first (suc i) k v) (byte_at_is i v)
+    ∙ ap (λ (t : List ℕ). v / 256 ^ i % 256 ∷ t) (low_first k (suc i) v)
+    ∙ ap (λ (x : ℕ). v / 256 ^ i % 256 ∷ to_le k x) (ap (λ (x : ℕ). v / x) (pow-suc 256 i) ∙ sym (div-div-eq-div-mul v (256 ^ i) 256))
+
+-- a part of n bytes was lent, and came back as the bytes vs that the library makes of v
+pub bytes_written : (l : List ℕ) (at n v : ℕ) (t vs : List ℕ) → t ≡ vs → vs ≡ bytes_low_first 0 n v → put_mid at (at + n - at) l t ≡ splice l at (to_le n v)
+bytes_written l at n v t vs e q =
+    let z : v / 256 ^ 0 ≡ v = omega (arith, pow-zero 256) in
+    let p : t ≡ to_le n v = e ∙ q ∙ low_first n 0 v ∙ ap (to_le n) z in
+    lent_part l at (at + n) n t (to_le n v) refl p (ap length p ∙ length_to_le n v)

@@ -1,7 +1,7 @@
 -- The laws of `part` and `splice`, over any list, place and length: each follows from a splice being a run of stores, one
 -- after the other, and two lists being equal where their elements are.
 use mathlib.Core.Path.{◌≡◌, refl, sym, ap, ◌∙◌}
-use mathlib.Core.Bool.{Bool, true, false}
+use mathlib.Core.Bool.{Bool, true, false, ◌&&◌}
 use Prim.Native.Nat.{ℕ, zero, suc, ◌+◌, ◌-◌, ◌^◌, ◌≤◌, ◌<◌}
 use native.Mathlib.Nat.{add-zero, zero-add, add-suc, suc-add, not-suc-le-zero}
 use native.Mathlib.Numerals.{add-one}
@@ -14,44 +14,47 @@ use borrow.Author.Tests.{eq-eqb, eqb-true}
 use lib.ListN.{length, take, drop, get_or, set, length-append, length-take, length-drop, length-set, take-append-drop}
 use lib.Seq.{take-append-le, drop-append-le, drop-append-add, take-add, take_all, take-take, take-nil, drop-drop, drop-length, get_or-take, get_or-drop, get_or-set_same, get_or-set_other, set_comm, set-set, set-append_left, length-take-le, paste-zero, ext_get_or, sets, sets-eq, length-sets}
 use lib.Dec.{eqb}
+use lib.Pointwise.{pointwise}
 use Rattle.serialize.specs.Runs.{part, splice, zeros, both, alike, Below}
 
 -- ---- parts
 
-pub length_part : (l : List ℕ) (at n : ℕ) → at + n ≤ length l → length (part l at n) ≡ n
-length_part l at n h = simp (length-take, length-drop) (omega arith)
+module _ {A : Type 0} where
+  pub length_part : (l : List A) (at n : ℕ) → at + n ≤ length l → length (part l at n) ≡ n
+  length_part l at n h = simp (length-take, length-drop) (omega arith)
 
 pub get_or_part : (l : List ℕ) (at n i : ℕ) → i < n → get_or (part l at n) i 0 ≡ get_or l (at + i) 0
 get_or_part l at n i h = get_or-take n (drop at l) i 0 h ∙ get_or-drop at l i 0
 
-pub part_whole : (l : List ℕ) (n : ℕ) → length l ≡ n → part l 0 n ≡ l
-part_whole l n h = take_all n l (omega arith)
+module _ {A : Type 0} where
+  pub part_whole : (l : List A) (n : ℕ) → length l ≡ n → part l 0 n ≡ l
+  part_whole l n h = take_all n l (omega arith)
 
--- two parts side by side
-pub part_add : (l : List ℕ) (at m n : ℕ) → part l at (m + n) ≡ part l at m ++ part l (at + m) n
-part_add l at m n = take-add m n (drop at l) ∙ ap (λ (t : List ℕ). part l at m ++ take n t) (drop-drop m at l)
+  -- two parts side by side
+  pub part_add : (l : List A) (at m n : ℕ) → part l at (m + n) ≡ part l at m ++ part l (at + m) n
+  part_add l at m n = take-add m n (drop at l) ∙ ap (λ (t : List A). part l at m ++ take n t) (drop-drop m at l)
 
-drop_take : (b k : ℕ) (t : List ℕ) → drop b (take (b + k) t) ≡ take k (drop b t)
-drop_take zero k t = ap (λ (j : ℕ). take j t) (zero-add k)
-drop_take (suc b) k [] = ap (drop (suc b)) (take-nil (suc b + k)) ∙ sym (take-nil k)
-drop_take (suc b) k (x ∷ t) = ap (λ (j : ℕ). drop (suc b) (take j (x ∷ t))) (suc-add b k) ∙ drop_take b k t
+  drop_take : (b k : ℕ) (t : List A) → drop b (take (b + k) t) ≡ take k (drop b t)
+  drop_take zero k t = ap (λ (j : ℕ). take j t) (zero-add k)
+  drop_take (suc b) k [] = ap (drop (suc b)) (take-nil (suc b + k)) ∙ sym (take-nil k)
+  drop_take (suc b) k (x ∷ t) = ap (λ (j : ℕ). drop (suc b) (take j (x ∷ t))) (suc-add b k) ∙ drop_take b k t
 
--- a part of a part
-pub part_part : (l : List ℕ) (at m b n : ℕ) → b + n ≤ m → part (part l at m) b n ≡ part l (at + b) n
-part_part l at m b n h =
-    let e : b + (m - b) ≡ m = omega arith in
-    ap (λ (k : ℕ). take n (drop b (take k (drop at l)))) (sym e)
-    ∙ ap (take n) (drop_take b (m - b) (drop at l))
-    ∙ take-take n (m - b) (drop b (drop at l)) (omega arith)
-    ∙ ap (take n) (drop-drop b at l)
+  -- a part of a part
+  pub part_part : (l : List A) (at m b n : ℕ) → b + n ≤ m → part (part l at m) b n ≡ part l (at + b) n
+  part_part l at m b n h =
+      let e : b + (m - b) ≡ m = omega arith in
+      ap (λ (k : ℕ). take n (drop b (take k (drop at l)))) (sym e)
+      ∙ ap (take n) (drop_take b (m - b) (drop at l))
+      ∙ take-take n (m - b) (drop b (drop at l)) (omega arith)
+      ∙ ap (take n) (drop-drop b at l)
 
--- a part that lies in the first, or in the second, of two lists
-pub part_left : (xs ys : List ℕ) (b n : ℕ) → b + n ≤ length xs → part (xs ++ ys) b n ≡ part xs b n
-part_left xs ys b n h =
-    ap (take n) (drop-append-le b xs ys (omega arith)) ∙ take-append-le n (drop b xs) ys (simp length-drop (omega arith))
+  -- a part that lies in the first, or in the second, of two lists
+  pub part_left : (xs ys : List A) (b n : ℕ) → b + n ≤ length xs → part (xs ++ ys) b n ≡ part xs b n
+  part_left xs ys b n h =
+      ap (take n) (drop-append-le b xs ys (omega arith)) ∙ take-append-le n (drop b xs) ys (simp length-drop (omega arith))
 
-pub part_right : (xs ys : List ℕ) (b n : ℕ) → part (xs ++ ys) (length xs + b) n ≡ part ys b n
-part_right xs ys b n = ap (take n) (drop-append-add xs ys b)
+  pub part_right : (xs ys : List A) (b n : ℕ) → part (xs ++ ys) (length xs + b) n ≡ part ys b n
+  part_right xs ys b n = ap (take n) (drop-append-add xs ys b)
 
 -- two parts are equal where their elements are
 pub part_ext : (l m : List ℕ) (a b n : ℕ) → a + n ≤ length l → b + n ≤ length m → ((i : ℕ) → i < n → get_or l (a + i) 0 ≡ get_or m (b + i) 0) → part l a n ≡ part m b n
@@ -84,12 +87,13 @@ below_part l at n h = below_take n (drop at l) (below_drop at l h)
 
 -- ---- a splice is a run of stores
 
-pub splice_sets : (l : List ℕ) (at : ℕ) (vs : List ℕ) → at + length vs ≤ length l → splice l at vs ≡ sets l at vs
-unfolding splice
-splice_sets l at vs h = sym (sets-eq vs l at h)
+module _ {A : Type 0} where
+  pub splice_sets : (l : List A) (at : ℕ) (vs : List A) → at + length vs ≤ length l → splice l at vs ≡ sets l at vs
+  unfolding splice
+  splice_sets l at vs h = sym (sets-eq vs l at h)
 
-pub length_splice : (l : List ℕ) (at : ℕ) (vs : List ℕ) → at + length vs ≤ length l → length (splice l at vs) ≡ length l
-length_splice l at vs h = ap length (splice_sets l at vs h) ∙ length-sets l at vs
+  pub length_splice : (l : List A) (at : ℕ) (vs : List A) → at + length vs ≤ length l → length (splice l at vs) ≡ length l
+  length_splice l at vs h = ap length (splice_sets l at vs h) ∙ length-sets l at vs
 
 get_or_sets_other : (vs l : List ℕ) (at j : ℕ) → ((q : ℕ) → q < length vs → at + q ≡ j → ⊥) → get_or (sets l at vs) j 0 ≡ get_or l j 0
 get_or_sets_other [] l at j h = refl
@@ -156,19 +160,20 @@ part_set_other l j v b n h d =
 
 -- ---- splices that say the same
 
--- one store is a splice
-pub set_splice : (l : List ℕ) (at v : ℕ) → at < length l → set l at v ≡ splice l at (v ∷ [])
-set_splice l at v h = sym (splice_sets l at (v ∷ []) (omega arith))
+module _ {A : Type 0} where
+  -- one store is a splice
+  pub set_splice : (l : List A) (at : ℕ) (v : A) → at < length l → set l at v ≡ splice l at (v ∷ [])
+  set_splice l at v h = sym (splice_sets l at (v ∷ []) (omega arith))
 
-pub splice_none : (l : List ℕ) (at : ℕ) → splice l at [] ≡ l
-unfolding splice
-splice_none l at = sym (paste-zero l at [])
+  pub splice_none : (l : List A) (at : ℕ) → splice l at [] ≡ l
+  unfolding splice
+  splice_none l at = sym (paste-zero l at [])
 
-pub splice_whole : (l vs : List ℕ) → length vs ≡ length l → splice l 0 vs ≡ vs
-unfolding splice
-splice_whole l vs h =
-    let z : 0 + length vs ≡ length l = omega arith in
-    ap (λ (i : ℕ). vs ++ drop i l) z ∙ ap (λ (t : List ℕ). vs ++ t) (drop-length l) ∙ append-nil vs
+  pub splice_whole : (l vs : List A) → length vs ≡ length l → splice l 0 vs ≡ vs
+  unfolding splice
+  splice_whole l vs h =
+      let z : 0 + length vs ≡ length l = omega arith in
+      ap (λ (i : ℕ). vs ++ drop i l) z ∙ ap (λ (t : List A). vs ++ t) (drop-length l) ∙ append-nil vs
 
 drop_zeros : (k n : ℕ) → drop k (zeros n) ≡ zeros (n - k)
 drop_zeros zero n = let e : n ≡ n - 0 = omega arith in ap zeros e
@@ -181,151 +186,152 @@ unfolding splice
 splice_zeros n vs h =
     ap (λ (i : ℕ). vs ++ drop i (zeros n)) (zero-add (length vs)) ∙ ap (λ (t : List ℕ). vs ++ t) (drop_zeros (length vs) n)
 
--- what stands there, spliced in
-pub splice_part : (l : List ℕ) (at n : ℕ) → at + n ≤ length l → splice l at (part l at n) ≡ l
-unfolding splice
-splice_part l at n h =
-    ap (λ (m : ℕ). take at l ++ part l at n ++ drop (at + m) l) (length_part l at n h)
-    ∙ ap (λ (t : List ℕ). t ++ drop (at + n) l) (sym (take-add at n l))
-    ∙ take-append-drop (at + n) l
+module _ {A : Type 0} where
+  -- what stands there, spliced in
+  pub splice_part : (l : List A) (at n : ℕ) → at + n ≤ length l → splice l at (part l at n) ≡ l
+  unfolding splice
+  splice_part l at n h =
+      ap (λ (m : ℕ). take at l ++ part l at n ++ drop (at + m) l) (length_part l at n h)
+      ∙ ap (λ (t : List A). t ++ drop (at + n) l) (sym (take-add at n l))
+      ∙ take-append-drop (at + n) l
 
--- ---- splice after splice
+  -- ---- splice after splice
 
-sets_append : (l : List ℕ) (i : ℕ) (vs us : List ℕ) → sets (sets l i vs) (i + length vs) us ≡ sets l i (vs ++ us)
-sets_append l i [] us = ap (λ (k : ℕ). sets l k us) (add-zero i)
-sets_append l i (v ∷ vs) us =
-    let e : i + suc (length vs) ≡ suc i + length vs = omega arith in
-    ap (λ (k : ℕ). sets (sets (set l i v) (suc i) vs) k us) e ∙ sets_append (set l i v) (suc i) vs us
+  sets_append : (l : List A) (i : ℕ) (vs us : List A) → sets (sets l i vs) (i + length vs) us ≡ sets l i (vs ++ us)
+  sets_append l i [] us = ap (λ (k : ℕ). sets l k us) (add-zero i)
+  sets_append l i (v ∷ vs) us =
+      let e : i + suc (length vs) ≡ suc i + length vs = omega arith in
+      ap (λ (k : ℕ). sets (sets (set l i v) (suc i) vs) k us) e ∙ sets_append (set l i v) (suc i) vs us
 
-sets_set : (vs l : List ℕ) (at i a : ℕ) → ((q : ℕ) → q < length vs → at + q ≡ i → ⊥) → sets (set l i a) at vs ≡ set (sets l at vs) i a
-sets_set [] l at i a d = refl
-sets_set (v ∷ vs) l at i a d =
-    ap (λ (t : List ℕ). sets t (suc at) vs) (set_comm l i at a v (λ e. let e' : at + 0 ≡ i = omega arith in d 0 (omega arith) e'))
-    ∙ sets_set vs (set l at v) (suc at) i a (λ q k e. let e' : at + suc q ≡ i = omega arith in d (suc q) (omega arith) e')
+  sets_set : (vs l : List A) (at i : ℕ) (a : A) → ((q : ℕ) → q < length vs → at + q ≡ i → ⊥) → sets (set l i a) at vs ≡ set (sets l at vs) i a
+  sets_set [] l at i a d = refl
+  sets_set (v ∷ vs) l at i a d =
+      ap (λ (t : List A). sets t (suc at) vs) (set_comm l i at a v (λ e. let e' : at + 0 ≡ i = omega arith in d 0 (omega arith) e'))
+      ∙ sets_set vs (set l at v) (suc at) i a (λ q k e. let e' : at + suc q ≡ i = omega arith in d (suc q) (omega arith) e')
 
-sets_comm : (us vs l : List ℕ) (a b : ℕ) → ((o q : ℕ) → o < length us → q < length vs → b + q ≡ a + o → ⊥) → sets (sets l a us) b vs ≡ sets (sets l b vs) a us
-sets_comm [] vs l a b d = refl
-sets_comm (u ∷ us) vs l a b d =
-    sets_comm us vs (set l a u) (suc a) b (λ o q s t e. let e' : b + q ≡ a + suc o = omega arith in d (suc o) q (omega arith) t e')
-    ∙ ap (λ (t : List ℕ). sets t (suc a) us) (sets_set vs l b a u (λ q t e. let e' : b + q ≡ a + 0 = omega arith in d 0 q (omega arith) t e'))
+  sets_comm : (us vs l : List A) (a b : ℕ) → ((o q : ℕ) → o < length us → q < length vs → b + q ≡ a + o → ⊥) → sets (sets l a us) b vs ≡ sets (sets l b vs) a us
+  sets_comm [] vs l a b d = refl
+  sets_comm (u ∷ us) vs l a b d =
+      sets_comm us vs (set l a u) (suc a) b (λ o q s t e. let e' : b + q ≡ a + suc o = omega arith in d (suc o) q (omega arith) t e')
+      ∙ ap (λ (t : List A). sets t (suc a) us) (sets_set vs l b a u (λ q t e. let e' : b + q ≡ a + 0 = omega arith in d 0 q (omega arith) t e'))
 
-sets_over : (us vs l : List ℕ) (at : ℕ) → length us ≤ length vs → sets (sets l at us) at vs ≡ sets l at vs
-sets_over [] vs l at h = refl
-sets_over (u ∷ us) [] l at h = absurd (not-suc-le-zero h)
-sets_over (u ∷ us) (v ∷ vs) l at h =
-    ap (λ (t : List ℕ). sets t (suc at) vs) (sym (sets_set us (set l at u) (suc at) at v (λ q s e. omega arith)) ∙ ap (λ (t : List ℕ). sets t (suc at) us) (set-set l at u v))
-    ∙ sets_over us vs (set l at v) (suc at) (omega arith)
+  sets_over : (us vs l : List A) (at : ℕ) → length us ≤ length vs → sets (sets l at us) at vs ≡ sets l at vs
+  sets_over [] vs l at h = refl
+  sets_over (u ∷ us) [] l at h = absurd (not-suc-le-zero h)
+  sets_over (u ∷ us) (v ∷ vs) l at h =
+      ap (λ (t : List A). sets t (suc at) vs) (sym (sets_set us (set l at u) (suc at) at v (λ q s e. omega arith)) ∙ ap (λ (t : List A). sets t (suc at) us) (set-set l at u v))
+      ∙ sets_over us vs (set l at v) (suc at) (omega arith)
 
--- two splices as two runs of stores
-two_sets : (l : List ℕ) (a : ℕ) (us : List ℕ) (b : ℕ) (vs : List ℕ) → a + length us ≤ length l → b + length vs ≤ length l
-    → splice (splice l a us) b vs ≡ sets (sets l a us) b vs
-two_sets l a us b vs h k =
-    splice_sets (splice l a us) b vs (omega (arith, length_splice l a us h)) ∙ ap (λ (t : List ℕ). sets t b vs) (splice_sets l a us h)
+  -- two splices as two runs of stores
+  two_sets : (l : List A) (a : ℕ) (us : List A) (b : ℕ) (vs : List A) → a + length us ≤ length l → b + length vs ≤ length l
+      → splice (splice l a us) b vs ≡ sets (sets l a us) b vs
+  two_sets l a us b vs h k =
+      splice_sets (splice l a us) b vs (omega (arith, length_splice l a us h)) ∙ ap (λ (t : List A). sets t b vs) (splice_sets l a us h)
 
--- right after it: one longer splice
-pub splice_splice : (l : List ℕ) (at : ℕ) (vs us : List ℕ) → at + length vs + length us ≤ length l → splice (splice l at vs) (at + length vs) us ≡ splice l at (vs ++ us)
-splice_splice l at vs us h =
-    two_sets l at vs (at + length vs) us (omega arith) h
-    ∙ sets_append l at vs us
-    ∙ sym (splice_sets l at (vs ++ us) (simp length-append (omega arith)))
+  -- right after it: one longer splice
+  pub splice_splice : (l : List A) (at : ℕ) (vs us : List A) → at + length vs + length us ≤ length l → splice (splice l at vs) (at + length vs) us ≡ splice l at (vs ++ us)
+  splice_splice l at vs us h =
+      two_sets l at vs (at + length vs) us (omega arith) h
+      ∙ sets_append l at vs us
+      ∙ sym (splice_sets l at (vs ++ us) (simp length-append (omega arith)))
 
--- the same, as a caller has it: t is l with vs at at, and u is t with us at p, right after vs
-pub splice_then : (l t u : List ℕ) (at : ℕ) (vs : List ℕ) (p : ℕ) (us : List ℕ) → t ≡ splice l at vs → u ≡ splice t p us → at + length vs ≡ p → p + length us ≤ length l
-    → u ≡ splice l at (vs ++ us)
-splice_then l t u at vs p us e f q h =
-    f ∙ ap (λ (x : List ℕ). splice x p us) e ∙ ap (λ (i : ℕ). splice (splice l at vs) i us) (sym q) ∙ splice_splice l at vs us (omega arith)
+  -- the same, as a caller has it: t is l with vs at at, and u is t with us at p, right after vs
+  pub splice_then : (l t u : List A) (at : ℕ) (vs : List A) (p : ℕ) (us : List A) → t ≡ splice l at vs → u ≡ splice t p us → at + length vs ≡ p → p + length us ≤ length l
+      → u ≡ splice l at (vs ++ us)
+  splice_then l t u at vs p us e f q h =
+      f ∙ ap (λ (x : List A). splice x p us) e ∙ ap (λ (i : ℕ). splice (splice l at vs) i us) (sym q) ∙ splice_splice l at vs us (omega arith)
 
--- a store, and a splice right after it; a splice, and a store right after it
-pub splice_cons : (l : List ℕ) (at v : ℕ) (vs : List ℕ) → at + 1 + length vs ≤ length l → splice (set l at v) (at + 1) vs ≡ splice l at (v ∷ vs)
-splice_cons l at v vs h =
-    splice_sets (set l at v) (at + 1) vs (simp length-set (omega arith))
-    ∙ ap (λ (i : ℕ). sets (set l at v) i vs) (add-one at)
-    ∙ sym (splice_sets l at (v ∷ vs) (omega arith))
+  -- a store, and a splice right after it; a splice, and a store right after it
+  pub splice_cons : (l : List A) (at : ℕ) (v : A) (vs : List A) → at + 1 + length vs ≤ length l → splice (set l at v) (at + 1) vs ≡ splice l at (v ∷ vs)
+  splice_cons l at v vs h =
+      splice_sets (set l at v) (at + 1) vs (simp length-set (omega arith))
+      ∙ ap (λ (i : ℕ). sets (set l at v) i vs) (add-one at)
+      ∙ sym (splice_sets l at (v ∷ vs) (omega arith))
 
-pub splice_snoc : (l : List ℕ) (at : ℕ) (vs : List ℕ) (v : ℕ) → at + length vs < length l → set (splice l at vs) (at + length vs) v ≡ splice l at (vs ++ (v ∷ []))
-splice_snoc l at vs v h =
-    set_splice (splice l at vs) (at + length vs) v (omega (arith, length_splice l at vs (omega arith)))
-    ∙ splice_splice l at vs (v ∷ []) (omega arith)
+  pub splice_snoc : (l : List A) (at : ℕ) (vs : List A) (v : A) → at + length vs < length l → set (splice l at vs) (at + length vs) v ≡ splice l at (vs ++ (v ∷ []))
+  splice_snoc l at vs v h =
+      set_splice (splice l at vs) (at + length vs) v (omega (arith, length_splice l at vs (omega arith)))
+      ∙ splice_splice l at vs (v ∷ []) (omega arith)
 
--- over it: the first is forgotten
-pub splice_over : (l : List ℕ) (at : ℕ) (us vs : List ℕ) → length us ≤ length vs → at + length vs ≤ length l → splice (splice l at us) at vs ≡ splice l at vs
-splice_over l at us vs h k = two_sets l at us at vs (omega arith) k ∙ sets_over us vs l at h ∙ sym (splice_sets l at vs k)
+  -- over it: the first is forgotten
+  pub splice_over : (l : List A) (at : ℕ) (us vs : List A) → length us ≤ length vs → at + length vs ≤ length l → splice (splice l at us) at vs ≡ splice l at vs
+  splice_over l at us vs h k = two_sets l at us at vs (omega arith) k ∙ sets_over us vs l at h ∙ sym (splice_sets l at vs k)
 
--- elsewhere: in either order
-pub splice_comm : (l : List ℕ) (a : ℕ) (us : List ℕ) (b : ℕ) (vs : List ℕ) → a + length us ≤ length l → b + length vs ≤ length l
-    → ((o q : ℕ) → o < length us → q < length vs → b + q ≡ a + o → ⊥) → splice (splice l a us) b vs ≡ splice (splice l b vs) a us
-splice_comm l a us b vs h k d = two_sets l a us b vs h k ∙ sets_comm us vs l a b d ∙ sym (two_sets l b vs a us k h)
+  -- elsewhere: in either order
+  pub splice_comm : (l : List A) (a : ℕ) (us : List A) (b : ℕ) (vs : List A) → a + length us ≤ length l → b + length vs ≤ length l
+      → ((o q : ℕ) → o < length us → q < length vs → b + q ≡ a + o → ⊥) → splice (splice l a us) b vs ≡ splice (splice l b vs) a us
+  splice_comm l a us b vs h k d = two_sets l a us b vs h k ∙ sets_comm us vs l a b d ∙ sym (two_sets l b vs a us k h)
 
--- and a store elsewhere
-pub set_splice_comm : (l : List ℕ) (at : ℕ) (vs : List ℕ) (j v : ℕ) → at + length vs ≤ length l → ((q : ℕ) → q < length vs → at + q ≡ j → ⊥)
-    → set (splice l at vs) j v ≡ splice (set l j v) at vs
-set_splice_comm l at vs j v h d =
-    ap (λ (t : List ℕ). set t j v) (splice_sets l at vs h)
-    ∙ sym (sets_set vs l at j v d)
-    ∙ sym (splice_sets (set l j v) at vs (omega (arith, length-set l j v)))
+  -- and a store elsewhere
+  pub set_splice_comm : (l : List A) (at : ℕ) (vs : List A) (j : ℕ) (v : A) → at + length vs ≤ length l → ((q : ℕ) → q < length vs → at + q ≡ j → ⊥)
+      → set (splice l at vs) j v ≡ splice (set l j v) at vs
+  set_splice_comm l at vs j v h d =
+      ap (λ (t : List A). set t j v) (splice_sets l at vs h)
+      ∙ sym (sets_set vs l at j v d)
+      ∙ sym (splice_sets (set l j v) at vs (omega (arith, length-set l j v)))
 
--- ---- within it
+  -- ---- within it
 
-sets_left : (us xs ys : List ℕ) (k : ℕ) → k + length us ≤ length xs → sets (xs ++ ys) k us ≡ sets xs k us ++ ys
-sets_left [] xs ys k h = refl
-sets_left (u ∷ us) xs ys k h =
-    ap (λ (t : List ℕ). sets t (suc k) us) (set-append_left xs ys k u (omega arith))
-    ∙ sets_left us (set xs k u) ys (suc k) (omega (arith, length-set xs k u))
+  sets_left : (us xs ys : List A) (k : ℕ) → k + length us ≤ length xs → sets (xs ++ ys) k us ≡ sets xs k us ++ ys
+  sets_left [] xs ys k h = refl
+  sets_left (u ∷ us) xs ys k h =
+      ap (λ (t : List A). sets t (suc k) us) (set-append_left xs ys k u (omega arith))
+      ∙ sets_left us (set xs k u) ys (suc k) (omega (arith, length-set xs k u))
 
-set_right : (xs ys : List ℕ) (k a : ℕ) → set (xs ++ ys) (length xs + k) a ≡ xs ++ set ys k a
-set_right [] ys k a = ap (λ (i : ℕ). set ys i a) (zero-add k)
-set_right (x ∷ xs) ys k a = ap (λ (i : ℕ). set (x ∷ (xs ++ ys)) i a) (suc-add (length xs) k) ∙ ap (λ (t : List ℕ). x ∷ t) (set_right xs ys k a)
+  set_right : (xs ys : List A) (k : ℕ) (a : A) → set (xs ++ ys) (length xs + k) a ≡ xs ++ set ys k a
+  set_right [] ys k a = ap (λ (i : ℕ). set ys i a) (zero-add k)
+  set_right (x ∷ xs) ys k a = ap (λ (i : ℕ). set (x ∷ (xs ++ ys)) i a) (suc-add (length xs) k) ∙ ap (λ (t : List A). x ∷ t) (set_right xs ys k a)
 
-sets_right : (us xs ys : List ℕ) (k : ℕ) → sets (xs ++ ys) (length xs + k) us ≡ xs ++ sets ys k us
-sets_right [] xs ys k = refl
-sets_right (u ∷ us) xs ys k =
-    ap (λ (i : ℕ). sets (set (xs ++ ys) (length xs + k) u) i us) (sym (add-suc (length xs) k))
-    ∙ ap (λ (t : List ℕ). sets t (length xs + suc k) us) (set_right xs ys k u)
-    ∙ sets_right us xs (set ys k u) (suc k)
+  sets_right : (us xs ys : List A) (k : ℕ) → sets (xs ++ ys) (length xs + k) us ≡ xs ++ sets ys k us
+  sets_right [] xs ys k = refl
+  sets_right (u ∷ us) xs ys k =
+      ap (λ (i : ℕ). sets (set (xs ++ ys) (length xs + k) u) i us) (sym (add-suc (length xs) k))
+      ∙ ap (λ (t : List A). sets t (length xs + suc k) us) (set_right xs ys k u)
+      ∙ sets_right us xs (set ys k u) (suc k)
 
--- a splice in the first, or in the second, of two lists
-pub splice_left : (xs ys : List ℕ) (k : ℕ) (us : List ℕ) → k + length us ≤ length xs → splice (xs ++ ys) k us ≡ splice xs k us ++ ys
-splice_left xs ys k us h =
-    splice_sets (xs ++ ys) k us (simp length-append (omega arith)) ∙ sets_left us xs ys k h ∙ ap (λ (t : List ℕ). t ++ ys) (sym (splice_sets xs k us h))
+  -- a splice in the first, or in the second, of two lists
+  pub splice_left : (xs ys : List A) (k : ℕ) (us : List A) → k + length us ≤ length xs → splice (xs ++ ys) k us ≡ splice xs k us ++ ys
+  splice_left xs ys k us h =
+      splice_sets (xs ++ ys) k us (simp length-append (omega arith)) ∙ sets_left us xs ys k h ∙ ap (λ (t : List A). t ++ ys) (sym (splice_sets xs k us h))
 
-pub splice_right : (xs ys : List ℕ) (k : ℕ) (us : List ℕ) → k + length us ≤ length ys → splice (xs ++ ys) (length xs + k) us ≡ xs ++ splice ys k us
-splice_right xs ys k us h =
-    splice_sets (xs ++ ys) (length xs + k) us (simp length-append (omega arith)) ∙ sets_right us xs ys k ∙ ap (λ (t : List ℕ). xs ++ t) (sym (splice_sets ys k us h))
+  pub splice_right : (xs ys : List A) (k : ℕ) (us : List A) → k + length us ≤ length ys → splice (xs ++ ys) (length xs + k) us ≡ xs ++ splice ys k us
+  splice_right xs ys k us h =
+      splice_sets (xs ++ ys) (length xs + k) us (simp length-append (omega arith)) ∙ sets_right us xs ys k ∙ ap (λ (t : List A). xs ++ t) (sym (splice_sets ys k us h))
 
--- a splice as three lists
-pub splice_three : (l : List ℕ) (at : ℕ) (vs : List ℕ) → splice l at vs ≡ take at l ++ (vs ++ drop (at + length vs) l)
-unfolding splice
-splice_three l at vs = append_assoc (take at l) vs (drop (at + length vs) l)
+  -- a splice as three lists
+  pub splice_three : (l : List A) (at : ℕ) (vs : List A) → splice l at vs ≡ take at l ++ (vs ++ drop (at + length vs) l)
+  unfolding splice
+  splice_three l at vs = append_assoc (take at l) vs (drop (at + length vs) l)
 
--- a splice within what was spliced in
-pub splice_in_splice : (l : List ℕ) (at : ℕ) (vs : List ℕ) (k : ℕ) (us : List ℕ) → k + length us ≤ length vs → at + length vs ≤ length l
-    → splice (splice l at vs) (at + k) us ≡ splice l at (splice vs k us)
-splice_in_splice l at vs k us h f =
-    let e : length (take at l) ≡ at = length-take-le at l (omega arith) in
-    let d : List ℕ = drop (at + length vs) l in
-    ap (λ (t : List ℕ). splice t (at + k) us) (splice_three l at vs)
-    ∙ ap (λ (i : ℕ). splice (take at l ++ (vs ++ d)) (i + k) us) (sym e)
-    ∙ splice_right (take at l) (vs ++ d) k us (simp length-append (omega arith))
-    ∙ ap (λ (t : List ℕ). take at l ++ t) (splice_left vs d k us h)
-    ∙ ap (λ (n : ℕ). take at l ++ (splice vs k us ++ drop (at + n) l)) (sym (length_splice vs k us h))
-    ∙ sym (splice_three l at (splice vs k us))
+  -- a splice within what was spliced in
+  pub splice_in_splice : (l : List A) (at : ℕ) (vs : List A) (k : ℕ) (us : List A) → k + length us ≤ length vs → at + length vs ≤ length l
+      → splice (splice l at vs) (at + k) us ≡ splice l at (splice vs k us)
+  splice_in_splice l at vs k us h f =
+      let e : length (take at l) ≡ at = length-take-le at l (omega arith) in
+      let d : List A = drop (at + length vs) l in
+      ap (λ (t : List A). splice t (at + k) us) (splice_three l at vs)
+      ∙ ap (λ (i : ℕ). splice (take at l ++ (vs ++ d)) (i + k) us) (sym e)
+      ∙ splice_right (take at l) (vs ++ d) k us (simp length-append (omega arith))
+      ∙ ap (λ (t : List A). take at l ++ t) (splice_left vs d k us h)
+      ∙ ap (λ (n : ℕ). take at l ++ (splice vs k us ++ drop (at + n) l)) (sym (length_splice vs k us h))
+      ∙ sym (splice_three l at (splice vs k us))
 
--- one store within it
-pub set_in_splice : (l : List ℕ) (at : ℕ) (vs : List ℕ) (k a : ℕ) → k < length vs → at + length vs ≤ length l → set (splice l at vs) (at + k) a ≡ splice l at (set vs k a)
-set_in_splice l at vs k a h f =
-    set_splice (splice l at vs) (at + k) a (omega (arith, length_splice l at vs f))
-    ∙ splice_in_splice l at vs k (a ∷ []) (omega arith) f
-    ∙ ap (splice l at) (sym (set_splice vs k a h))
+  -- one store within it
+  pub set_in_splice : (l : List A) (at : ℕ) (vs : List A) (k : ℕ) (a : A) → k < length vs → at + length vs ≤ length l → set (splice l at vs) (at + k) a ≡ splice l at (set vs k a)
+  set_in_splice l at vs k a h f =
+      set_splice (splice l at vs) (at + k) a (omega (arith, length_splice l at vs f))
+      ∙ splice_in_splice l at vs k (a ∷ []) (omega arith) f
+      ∙ ap (splice l at) (sym (set_splice vs k a h))
 
--- a part that was lent, and came back as vs
-pub lent_part : (l : List ℕ) (at e k : ℕ) (vs ws : List ℕ) → e ≡ at + k → vs ≡ ws → length vs ≡ k → put_mid at (e - at) l vs ≡ splice l at ws
-unfolding splice
-lent_part l at e k vs ws h q n =
-    let d : e - at ≡ length vs = omega arith in
-    ap (λ (j : ℕ). take at l ++ (vs ++ drop j (drop at l))) d
-    ∙ ap (λ (x : List ℕ). take at l ++ (vs ++ x)) (drop-drop (length vs) at l)
-    ∙ sym (append_assoc (take at l) vs (drop (at + length vs) l))
-    ∙ ap (splice l at) q
+  -- a part that was lent, and came back as vs
+  pub lent_part : (l : List A) (at e k : ℕ) (vs ws : List A) → e ≡ at + k → vs ≡ ws → length vs ≡ k → put_mid at (e - at) l vs ≡ splice l at ws
+  unfolding splice
+  lent_part l at e k vs ws h q n =
+      let d : e - at ≡ length vs = omega arith in
+      ap (λ (j : ℕ). take at l ++ (vs ++ drop j (drop at l))) d
+      ∙ ap (λ (x : List A). take at l ++ (vs ++ x)) (drop-drop (length vs) at l)
+      ∙ sym (append_assoc (take at l) vs (drop (at + length vs) l))
+      ∙ ap (splice l at) q
 
 -- ---- runs compared
 
@@ -344,6 +350,18 @@ pub alike_refl : (xs : List ℕ) → alike xs xs ≡ true
 unfolding alike
 alike_refl [] = refl
 alike_refl (x ∷ xs) = rw (eq-eqb x x refl) (alike_refl xs)
+
+-- `==` on slices is this test
+same_step : (a : Bool) {b c : Bool} → b ≡ c → (a && b) ≡ both a c
+same_step true e = e
+same_step false e = refl
+
+pub pointwise_alike : (xs ys : List ℕ) → pointwise eqb xs ys ≡ alike xs ys
+unfolding alike
+pointwise_alike [] [] = refl
+pointwise_alike [] (y ∷ ys) = refl
+pointwise_alike (x ∷ xs) [] = refl
+pointwise_alike (x ∷ xs) (y ∷ ys) = same_step (eqb x y) (pointwise_alike xs ys)
 
 -- the test says yes to equal lists alone
 pub alike_true : (xs ys : List ℕ) → alike xs ys ≡ true → xs ≡ ys

@@ -2,11 +2,11 @@
 use Rattle.std.specs.Prelude.{ℕ, ◌+◌, ◌<◌, Bool, true, false, List, [], ◌∷◌, ◌++◌, length, take, drop, get_or, replicate, eqb}
 
 -- the n elements of l from index at
-abbrev pub part : List ℕ → ℕ → ℕ → List ℕ
+abbrev pub part : {A : Type 0} → List A → ℕ → ℕ → List A
 part l at n = take n (drop at l)
 
 -- l with vs in the place of as many elements from index at
-unfoldable pub splice : List ℕ → ℕ → List ℕ → List ℕ
+unfoldable pub splice : {A : Type 0} → List A → ℕ → List A → List A
 splice l at vs = take at l ++ vs ++ drop (at + length vs) l
 
 -- n zeros

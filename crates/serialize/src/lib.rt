@@ -4,15 +4,10 @@
 
 mod bytes;
 mod number;
+mod runs;
 mod words;
 
-pub use bytes::{copy_bytes, same_bytes, zero_bytes};
+pub use bytes::same_bytes;
 pub use number::{read_u16, read_u32, read_u64, write_u16, write_u32, write_u64};
-pub use words::{copy_words, pack_words, unpack_words, zero_words};
-
-// What a search answers: the lowest place, or that there is none.
-#[derive(Clone, Copy)]
-pub enum Found {
-    At(usize),
-    Nothing,
-}
+pub use runs::{copy, fill};
+pub use words::{pack_words, unpack_words};

@@ -1,29 +1,9 @@
-// Runs of words at a place of a slice, and bytes packed eight to a word: tables hold keys and user data so.
+// Bytes packed eight to a word: tables hold keys and user data so. Each turn needs its place in both slices.
 ghost use Rattle.std.specs.Prelude.{◌≡◌, ◌+◌, ◌*◌, ◌≤◌, length, drop};
-ghost use Rattle.serialize.specs.Runs.{part, splice, zeros};
+ghost use Rattle.serialize.specs.Runs.{part, splice};
 ghost use Rattle.serialize.specs.Le.{words, bytes_of};
 
 use crate::number;
-
-// n words of src from index from, into dst from index at.
-pub fn copy_words(dst: &mut [u64], at: usize, src: &[u64], from: usize, n: usize)
-    requires { (at + n ≤ length dst.old) × (from + n ≤ length src.now) }
-    ensures { dst.new ≡ splice dst.old at (part src.now from n) }
-{
-    for i in 0..n {
-        dst[at + i] = src[from + i];
-    }
-}
-
-// n zero words, into dst from index at.
-pub fn zero_words(dst: &mut [u64], at: usize, n: usize)
-    requires { at + n ≤ length dst.old }
-    ensures { dst.new ≡ splice dst.old at (zeros n) }
-{
-    for k in 0..n {
-        dst[at + k] = 0;
-    }
-}
 
 // 8 n bytes of src from index from, as n words of dst from index at.
 pub fn pack_words(dst: &mut [u64], at: usize, src: &[u8], from: usize, n: usize)

@@ -1,4 +1,5 @@
 pub mod Ways
+pub mod Verdicts
 pub mod Inversions
 pub mod Pieces
 pub mod AnswersBack

@@ -1,12 +1,14 @@
 -- The tests that calls share (document 01, "When the server says no": elsewhere 16 comes first, and 17 before 18; 23 follows 16 or 17). Each
--- gives its number, or 0.
-use Rattle.std.specs.Prelude.{ℕ, ◌+◌, ◌*◌, ◌-◌, ◌^◌, Bool, false, not, ◌||◌, eqb, ltb, leb}
+-- gives its number, or 0; the code gives the `verdict` of it.
+use Rattle.std.specs.Prelude.{ℕ, ◌+◌, ◌*◌, ◌-◌, ◌^◌, Bool, false, not, ◌||◌, eqb, ltb, leb, Option, None, Some, Result, Ok, Err}
 use Rattle.serialize.specs.Choice.{pick}
 use Rattle.places.specs.Layout.{place_words}
 use Rattle.server.specs.declared.SetUp.{SetUp}
 use Rattle.server.specs.declared.OpenAsk.{OpenAsk}
 use Rattle.server.specs.declared.Stage.{Stage}
 use Rattle.server.specs.declared.Stage.TheVariants.{Idle, Packet, Token, Challenge, Seal}
+use Rattle.server.specs.declared.Wanted.{Wanted}
+use Rattle.server.specs.declared.Wanted.TheVariants as want
 use Rattle.server.specs.declared.Goal.{Goal}
 use Rattle.server.specs.declared.Goal.TheVariants.{Denied, ChallengeToken, ChallengePacket, Connecting, Sending, Ending}
 
@@ -52,10 +54,34 @@ kind_of (Token addr expiry low high) = 2
 kind_of (Challenge place start) = 1
 kind_of (Seal goal sequence end) = 3
 
+-- the same as the code names it
+unfoldable pub wanted : Stage → Option Wanted
+wanted Idle = None
+wanted (Packet connected place kind sequence start) = Some want.Open
+wanted (Token addr expiry low high) = Some want.Token
+wanted (Challenge place start) = Some want.Open
+wanted (Seal goal sequence end) = Some want.Seal
+
+-- a kind's number
+abbrev pub code_of : Wanted → ℕ
+code_of want.Open = 1
+code_of want.Token = 2
+code_of want.Seal = 3
+
+-- ---- two tests in turn: where the first refuses, that is what they come to
+
+abbrev pub next_to : Result (Unit {0}) ℕ → Result (Unit {0}) ℕ → Result (Unit {0}) ℕ
+next_to (Ok u) second = second
+next_to (Err n) second = Err n
+
 -- ---- 16, then 23 by the tables that the call is lent
 
 unfoldable pub call_refusal : OpenAsk → ℕ → ℕ
 call_refusal ask tables = pick (eqb (kind_of ask.stage) 0) tables 16
+
+-- the same of what the tables' test came to
+unfoldable pub call_verdict : OpenAsk → Result (Unit {0}) ℕ → Result (Unit {0}) ℕ
+call_verdict ask tables = pick (eqb (kind_of ask.stage) 0) tables (Err 16)
 
 -- ---- 17, then 23 by the tables, then 18 (document 01: an answer lends the same buffers, another length is 18; wrong kind or field range)
 
@@ -101,3 +127,8 @@ unfit ask kind set datagram out =
 unfoldable pub answer_refusal : OpenAsk → ℕ → ℕ → SetUp → ℕ → ℕ → ℕ
 answer_refusal ask tables kind set datagram out =
     pick (eqb (kind_of ask.stage) 0) 17 (pick (eqb tables 0) (pick (unfit ask kind set datagram out) 18 0) tables)
+
+-- the same of what the tables' test came to
+unfoldable pub answer_verdict : OpenAsk → Result (Unit {0}) ℕ → ℕ → SetUp → ℕ → ℕ → Result (Unit {0}) ℕ
+answer_verdict ask tables kind set datagram out =
+    pick (eqb (kind_of ask.stage) 0) (Err 17) (next_to tables (pick (unfit ask kind set datagram out) (Err 18) (Ok tt)))

@@ -1,9 +1,10 @@
 // An answer in document 01's numbers.
 ghost use Rattle.std.specs.Prelude.{◌≡◌};
-ghost use Rattle.server.specs.Answers.{number_of, words_of, laid, nobody};
+ghost use Rattle.server.specs.Answers.{number_of, told, words_of, laid, nobody};
 
 use crate::Answer;
 use addresses::Address;
+use refusal::Refusal;
 
 // An address that none is.
 fn nobody() -> Address
@@ -42,24 +43,30 @@ fn lay(
     ]
 }
 
+// The number of a refusal that there may be; 0 for none.
+fn told(refusal: Option<Refusal>) -> u8
+    ensures { result ≡ told refusal }
+{
+    match refusal {
+        Some(refusal) => refusal.number(),
+        None => 0,
+    }
+}
+
 impl Answer {
     // The refusal's number; 15 or 24 where a record ended without its packet; else 0.
+    #[tactic(auto, unfolding(crate::specs::Answers::number_of))]
     pub fn number(self) -> u8
         ensures { result ≡ number_of self }
     {
         match self {
-            Answer::Refused(number) => number,
-            Answer::Nothing => 0,
-            Answer::Ask => 0,
-            Answer::PacketToSend { .. } => 0,
-            Answer::Payload { .. } => 0,
-            Answer::ClientConnected { .. } => 0,
-            Answer::ClientDisconnected {
-                client_id: _,
-                addr: _,
-                end: _,
-                refusal,
-            } => refusal,
+            Answer::Refused(refusal) => refusal.number(),
+            Answer::Nothing
+            | Answer::Ask
+            | Answer::PacketToSend { .. }
+            | Answer::Payload { .. }
+            | Answer::ClientConnected { .. } => 0,
+            Answer::ClientDisconnected { refusal, .. } => told(refusal),
         }
     }
 
@@ -68,7 +75,7 @@ impl Answer {
         ensures { result ≡ words_of self }
     {
         match self {
-            Answer::Refused(number) => lay(0, number, 0, 0, nobody(), 0, 0),
+            Answer::Refused(refusal) => lay(0, refusal.number(), 0, 0, nobody(), 0, 0),
             Answer::Nothing => lay(1, 0, 0, 0, nobody(), 0, 0),
             Answer::Ask => lay(2, 0, 0, 0, nobody(), 0, 0),
             Answer::PacketToSend { addr, end } => lay(3, 0, 0, 0, addr, 0, end),
@@ -88,7 +95,7 @@ impl Answer {
                 addr,
                 end,
                 refusal,
-            } => lay(6, refusal, client_id, 0, addr, 0, end),
+            } => lay(6, told(refusal), client_id, 0, addr, 0, end),
         }
     }
 }

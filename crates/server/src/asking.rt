@@ -28,6 +28,7 @@ pub fn no_ask() -> Ask
 }
 
 // What is opened stands in the datagram, what is sealed in the output.
+#[tactic(auto, unfolding(crate::specs::Asking::buffer_of))]
 fn buffer_of(work: Work) -> Buffer
     ensures { result ≡ buffer_of work }
 {
@@ -46,9 +47,9 @@ pub fn packet_ask(ask: asks::Ask) -> Ask
     let short_nonce = ask.nonce;
     let short_additional = ask.additional;
     let mut nonce = [0u8; 24];
-    serialize::copy_bytes(&mut nonce, 0, &short_nonce, 0, 12);
+    serialize::copy(&mut nonce, 0, &short_nonce, 0, 12);
     let mut additional = [0u8; 29];
-    serialize::copy_bytes(&mut additional, 0, &short_additional, 0, 22);
+    serialize::copy(&mut additional, 0, &short_additional, 0, 22);
     Ask {
         work,
         buffer: buffer_of(work),

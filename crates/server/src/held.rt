@@ -31,9 +31,9 @@ pub fn hold_token(
     serialize::write_u64(held, 0, client_id);
     serialize::write_u64(held, EXPIRY, expire_timestamp);
     serialize::write_u32(held, TIMEOUT, timeout_seconds);
-    serialize::copy_bytes(held, SEND_KEY, send_key, 0, 32);
-    serialize::copy_bytes(held, RECEIVE_KEY, receive_key, 0, 32);
-    serialize::copy_bytes(held, USER_DATA, user_data, 0, 256);
+    serialize::copy(held, SEND_KEY, send_key, 0, 32);
+    serialize::copy(held, RECEIVE_KEY, receive_key, 0, 32);
+    serialize::copy(held, USER_DATA, user_data, 0, 256);
 }
 
 // A challenge that the host opened: the rest stays as it is.
@@ -41,7 +41,7 @@ pub fn hold_challenge(held: &mut [u8; HELD_BYTES], client_id: u64, user_data: &[
     ensures { held.new ≡ held_challenge held.old client_id user_data.now }
 {
     serialize::write_u64(held, 0, client_id);
-    serialize::copy_bytes(held, USER_DATA, user_data, 0, 256);
+    serialize::copy(held, USER_DATA, user_data, 0, 256);
 }
 
 pub fn held_client_id(held: &[u8; HELD_BYTES]) -> u64
@@ -68,7 +68,7 @@ fn key_at(held: &[u8; HELD_BYTES], at: usize) -> [u8; 32]
     ensures { result ≡ part held.now at 32 }
 {
     let mut key = [0u8; 32];
-    serialize::copy_bytes(&mut key, 0, held, at, 32);
+    serialize::copy(&mut key, 0, held, at, 32);
     key
 }
 
@@ -88,6 +88,6 @@ pub fn held_user_data(held: &[u8; HELD_BYTES]) -> [u8; 256]
     ensures { result ≡ held_user_data held.now }
 {
     let mut user_data = [0u8; 256];
-    serialize::copy_bytes(&mut user_data, 0, held, USER_DATA, 256);
+    serialize::copy(&mut user_data, 0, held, USER_DATA, 256);
     user_data
 }

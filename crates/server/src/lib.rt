@@ -4,6 +4,7 @@
 use addresses::Address;
 use asks::Work;
 use bodies::PacketType;
+use refusal::Refusal;
 use times::Time;
 
 mod answers;
@@ -83,6 +84,14 @@ pub enum Stage {
     },
 }
 
+// The kind of answer that an ask wants: to an open, to a private token's open, to a seal.
+#[derive(Clone, Copy, PartialEq, Eq)]
+pub enum Wanted {
+    Open,
+    Token,
+    Seal,
+}
+
 // The open ask, and how long the buffers were that its call was lent.
 #[derive(Clone, Copy)]
 pub struct OpenAsk {
@@ -101,11 +110,11 @@ pub struct NetcodeServer {
     pub ask: OpenAsk,
 }
 
-// What a call comes to, the Rust's `ServerResult` with its refusals numbered. A packet to send stands in the output up to `end`, a
-// payload in the datagram from `start` to `end`. A record that ended without a packet has `end` 0, and 15 or 24 where that is why.
+// What a call comes to, the Rust's `ServerResult` with its refusals. A packet to send stands in the output up to `end`, a payload in
+// the datagram from `start` to `end`. A record that ended without a packet has `end` 0, and the refusal (15 or 24) where that is why.
 #[derive(Clone, Copy)]
 pub enum Answer {
-    Refused(u8),
+    Refused(Refusal),
     Nothing,
     Ask,
     PacketToSend {
@@ -127,7 +136,7 @@ pub enum Answer {
         client_id: u64,
         addr: Address,
         end: usize,
-        refusal: u8,
+        refusal: Option<Refusal>,
     },
 }
 

@@ -5,6 +5,7 @@
 use addresses::Address;
 use queries::Reply;
 use records::Connection;
+use refusal::Refusal;
 use replay_protection::ReplayProtection;
 use server::{NetcodeServer, OpenAsk, Stage, Step};
 use std::io;
@@ -81,7 +82,10 @@ fn set_up_with(
         entries,
         public,
     );
-    started.refusal as u64
+    match started {
+        Ok(_) => 0,
+        Err(refusal) => u64::from(refusal.number()),
+    }
 }
 
 // The same with two slots and two entries, with no slots, with a word too many, with no entries.
@@ -146,22 +150,22 @@ fn sets_up(to: Stdout) -> io::Result<u32> {
     Ok(plus(plus(plus(a, b), plus(c, d)), plus(plus(e, f), g)))
 }
 
-// A server with two slots and two pending places; what stood in the tables does not matter.
+// A server with two slots and two pending places; what stood in the tables does not matter. Where set-up refuses, no line of its part
+// holds.
 fn started(
     slots: &mut [u64; 620],
     pending: &mut [u64; 620],
     secs: u64,
     nanos: u64,
-) -> NetcodeServer {
+) -> Result<NetcodeServer, Refusal> {
     let mut entries = [0xaau8; 96];
-    let started = upkeep::set_up(
+    upkeep::set_up(
         config(2, secs, nanos),
         slots,
         pending,
         &mut entries,
         &PUBLIC,
-    );
-    started.server
+    )
 }
 
 // Pump 7 in place 1.
@@ -195,7 +199,9 @@ fn waits(to: Stdout) -> io::Result<u32> {
     )?;
     let mut slots = [0xaaaa_aaaa_aaaa_aaaa; 620];
     let mut pending = [0xaaaa_aaaa_aaaa_aaaa; 620];
-    let server = started(&mut slots, &mut pending, 99, SECOND);
+    let Ok(server) = started(&mut slots, &mut pending, 99, SECOND) else {
+        return Ok(0);
+    };
     let a = plus(seconds(to, server, 100)?, nanoseconds(to, server, 0)?);
     let b = used(to, b"   connected:", &slots, 0)?;
     let c = used(to, b"   pending:", &pending, 0)?;
@@ -223,23 +229,12 @@ fn value(reply: Reply) -> u64 {
 }
 
 fn number(reply: Reply) -> u64 {
-    reply.number() as u64
+    u64::from(reply.number())
 }
 
 fn connected(server: NetcodeServer, slots: &[u64], client_id: u64) -> u64 {
-    match queries::is_client_connected(server, slots, client_id) {
-        Reply::Connected => 1,
-        Reply::Refused(_) => 0,
-        Reply::Nothing => 0,
-        Reply::Count(_) => 0,
-        Reply::Addr(_) => 0,
-        Reply::Since(_) => 0,
-        Reply::UserData => 0,
-    }
-}
-
-fn wide(byte: u8) -> u64 {
-    byte as u64
+    let reply = queries::is_client_connected(server, slots, client_id);
+    u64::from(matches!(reply, Reply::Connected))
 }
 
 fn count(server: NetcodeServer, slots: &[u64; 620]) -> Reply {
@@ -297,7 +292,7 @@ fn asks_of_7(to: Stdout, server: NetcodeServer, slots: &[u64; 620]) -> io::Resul
         number(reply),
         0,
     )?;
-    let f = print::number(to, b"   its last byte:", wide(data[255]), 3)?;
+    let f = print::number(to, b"   its last byte:", u64::from(data[255]), 3)?;
     Ok(plus(plus(plus(a, b), plus(c, d)), plus(e, f)))
 }
 
@@ -308,7 +303,9 @@ fn answers(to: Stdout) -> io::Result<u32> {
     )?;
     let mut slots = [0xaaaa_aaaa_aaaa_aaaa; 620];
     let mut pending = [0xaaaa_aaaa_aaaa_aaaa; 620];
-    let server = started(&mut slots, &mut pending, 100, 0);
+    let Ok(server) = started(&mut slots, &mut pending, 100, 0) else {
+        return Ok(0);
+    };
     put_pump(&mut slots, Time { secs: 90, nanos: 0 });
     let a = print::number(to, b"   connected:", value(count(server, &slots)), 1)?;
     let b = plus(lists(to, server, &slots)?, asks_of_7(to, server, &slots)?);
@@ -339,7 +336,7 @@ fn answers(to: Stdout) -> io::Result<u32> {
 // The number that refused a call, 0 for none.
 fn told(step: Step) -> u64 {
     let answer = step.answer;
-    answer.number() as u64
+    u64::from(answer.number())
 }
 
 // What a second on the clock comes to.
@@ -363,7 +360,9 @@ fn holds_up(to: Stdout) -> io::Result<u32> {
     say(to, b"4. While an ask is open, and the limit.\n")?;
     let mut slots = [0xaaaa_aaaa_aaaa_aaaa; 620];
     let mut pending = [0xaaaa_aaaa_aaaa_aaaa; 620];
-    let server = started(&mut slots, &mut pending, 100, 0);
+    let Ok(server) = started(&mut slots, &mut pending, 100, 0) else {
+        return Ok(0);
+    };
     let busy = asking(server);
     let a = print::number(
         to,

@@ -1,11 +1,7 @@
 -- What each call answers and leaves: document 01's numbers for its refusals, 23 before 19, and nothing written then.
-use Rattle.std.specs.Prelude.{ℕ, Bool, not, List, [], ◌∷◌, eqb}
-use Rattle.serialize.specs.declared.Found.{Found}
-use Rattle.serialize.specs.declared.Found.TheVariants.{At, Nothing}
+use Rattle.std.specs.Prelude.{ℕ, Bool, not, List, [], ◌∷◌, eqb, Option, Some, None, Result, Ok, Err}
 use Rattle.serialize.specs.Choice.{pick}
 use Rattle.times.specs.declared.Time.{Time}
-use Rattle.times.specs.declared.Added.{Added}
-use Rattle.times.specs.declared.Added.TheVariants.{Clock, OutOfRange}
 use Rattle.times.specs.Times.{time, added, since}
 use Rattle.addresses.specs.declared.Address.{Address}
 use Rattle.addresses.specs.Addresses.{of_bytes, words_of, refusal, list_refusal, any_ours}
@@ -29,9 +25,9 @@ bit_of b = pick b 1 0
 
 -- ---- times
 
-unfoldable pub clock_laid : Added → List ℕ → Told
-clock_laid (Clock t) out = told 0 (t.secs ∷ t.nanos ∷ [])
-clock_laid OutOfRange out = told 20 out
+unfoldable pub clock_laid : Result Time ℕ → List ℕ → Told
+clock_laid (Ok t) out = told 0 (t.secs ∷ t.nanos ∷ [])
+clock_laid (Err refusal) out = told refusal out
 
 abbrev pub time_add : Time → Time → List ℕ → Told
 time_add t step out = clock_laid (added t step) out
@@ -51,9 +47,9 @@ ours_call list ours =
 
 -- ---- searches
 
-unfoldable pub found_as : Found → List ℕ → Told
-found_as (At i) place = told 1 (i ∷ [])
-found_as Nothing place = told 0 place
+unfoldable pub found_as : Option ℕ → List ℕ → Told
+found_as (Some i) place = told 1 (i ∷ [])
+found_as None place = told 0 place
 
 -- a table that is no table, or what follows
 abbrev pub shaped : List ℕ → List ℕ → Told → Told

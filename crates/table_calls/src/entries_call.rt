@@ -18,12 +18,12 @@ pub fn pump_find_or_add_entry(
 ) -> u8
     ensures { told result table.new ≡ entry_call table.old secs nanos kind bytes.now port mac.now }
 {
-    if entries::entries_refusal(table) != 0 {
-        return 23;
+    if let Err(refusal) = entries::entries_refusal(table) {
+        return refusal.number();
     }
     let address = Address::new(kind, bytes, port);
-    if address.refusal() != 0 {
-        return 19;
+    if let Err(refusal) = address.refusal() {
+        return refusal.number();
     }
     let new_entry = ConnectTokenEntry {
         time: Time { secs, nanos },
@@ -31,9 +31,5 @@ pub fn pump_find_or_add_entry(
         mac: *mac,
     };
     let k = entries::count_entries(table);
-    if entries::find_or_add_connect_token_entry(table, k, new_entry) {
-        1
-    } else {
-        0
-    }
+    u8::from(entries::find_or_add_connect_token_entry(table, k, new_entry))
 }

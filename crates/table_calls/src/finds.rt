@@ -4,18 +4,17 @@ ghost use Rattle.table_calls.specs.Calls.{told, find_address_call, find_id_call,
 
 use addresses::Address;
 use places::NETCODE_MAX_PENDING_CLIENTS;
-use serialize::Found;
 
 // What a search found, laid out.
-fn lay(found: Found, place: &mut [u64; 1]) -> u8
+fn lay(found: Option<usize>, place: &mut [u64; 1]) -> u8
     ensures { told result place.new ≡ found_as found place.old }
 {
     match found {
-        Found::At(i) => {
+        Some(i) => {
             *place = [i as u64];
             1
         }
-        Found::Nothing => 0,
+        None => 0,
     }
 }
 
@@ -28,12 +27,12 @@ pub fn pump_find_by_address(
 ) -> u8
     ensures { told result place.new ≡ find_address_call t.now kind bytes.now port place.old }
 {
-    if places::places_refusal(t, NETCODE_MAX_PENDING_CLIENTS) != 0 {
-        return 23;
+    if let Err(refusal) = places::places_refusal(t, NETCODE_MAX_PENDING_CLIENTS) {
+        return refusal.number();
     }
     let addr = Address::new(kind, bytes, port);
-    if addr.refusal() != 0 {
-        return 19;
+    if let Err(refusal) = addr.refusal() {
+        return refusal.number();
     }
     lay(
         places::find_by_address(t, places::count_places(t), addr),
@@ -44,8 +43,8 @@ pub fn pump_find_by_address(
 pub fn pump_find_by_id(t: &[u64], client_id: u64, place: &mut [u64; 1]) -> u8
     ensures { told result place.new ≡ find_id_call t.now client_id place.old }
 {
-    if places::places_refusal(t, NETCODE_MAX_PENDING_CLIENTS) != 0 {
-        return 23;
+    if let Err(refusal) = places::places_refusal(t, NETCODE_MAX_PENDING_CLIENTS) {
+        return refusal.number();
     }
     lay(
         places::find_by_id(t, places::count_places(t), client_id),
@@ -56,8 +55,8 @@ pub fn pump_find_by_id(t: &[u64], client_id: u64, place: &mut [u64; 1]) -> u8
 pub fn pump_find_free(t: &[u64], place: &mut [u64; 1]) -> u8
     ensures { told result place.new ≡ find_free_call t.now place.old }
 {
-    if places::places_refusal(t, NETCODE_MAX_PENDING_CLIENTS) != 0 {
-        return 23;
+    if let Err(refusal) = places::places_refusal(t, NETCODE_MAX_PENDING_CLIENTS) {
+        return refusal.number();
     }
     lay(places::find_free(t, places::count_places(t)), place)
 }
@@ -66,8 +65,8 @@ pub fn pump_find_free(t: &[u64], place: &mut [u64; 1]) -> u8
 pub fn pump_count_used(t: &[u64], count: &mut [u64; 1]) -> u8
     ensures { told result count.new ≡ count_call t.now count.old }
 {
-    if places::places_refusal(t, NETCODE_MAX_PENDING_CLIENTS) != 0 {
-        return 23;
+    if let Err(refusal) = places::places_refusal(t, NETCODE_MAX_PENDING_CLIENTS) {
+        return refusal.number();
     }
     *count = [places::count_used(t, places::count_places(t)) as u64];
     1
@@ -78,8 +77,8 @@ pub fn pump_address(kind: u8, bytes: &[u8; 16], port: u16, out: &mut [u64; 3]) -
     ensures { told result out.new ≡ address_call kind bytes.now port out.old }
 {
     let addr = Address::new(kind, bytes, port);
-    if addr.refusal() != 0 {
-        return 19;
+    if let Err(refusal) = addr.refusal() {
+        return refusal.number();
     }
     *out = [addr.first_word(), addr.low, addr.high];
     0
@@ -89,15 +88,11 @@ pub fn pump_address(kind: u8, bytes: &[u8; 16], port: u16, out: &mut [u64; 3]) -
 pub fn pump_any_ours(list: &[u64], ours: &[u64]) -> u8
     ensures { result ≡ ours_call list.now ours.now }
 {
-    if addresses::list_refusal(ours) != 0 {
-        return 19;
+    if let Err(refusal) = addresses::list_refusal(ours) {
+        return refusal.number();
     }
-    if addresses::list_refusal(list) != 0 {
-        return 19;
+    if let Err(refusal) = addresses::list_refusal(list) {
+        return refusal.number();
     }
-    if addresses::any_ours(list, ours) {
-        1
-    } else {
-        0
-    }
+    u8::from(addresses::any_ours(list, ours))
 }

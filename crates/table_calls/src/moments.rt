@@ -3,7 +3,7 @@ ghost use Rattle.std.specs.Prelude.{◌≡◌};
 ghost use Rattle.times.specs.Times.{time, before, past, due};
 ghost use Rattle.table_calls.specs.Calls.{told, time_add, since_words};
 
-use times::{Added, Time};
+use times::Time;
 
 // 0, and the clock moved on in out; 20 where it would pass its range.
 pub fn pump_time_add(
@@ -21,11 +21,11 @@ pub fn pump_time_add(
         nanos: step_nanos,
     };
     match clock.add(step) {
-        Added::Clock(t) => {
+        Ok(t) => {
             *out = [t.secs, t.nanos];
             0
         }
-        Added::OutOfRange => 20,
+        Err(refusal) => refusal.number(),
     }
 }
 

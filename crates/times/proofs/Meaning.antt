@@ -1,5 +1,6 @@
 -- What the definitions say of times, from the definitions alone: a clock is its whole nanoseconds, a sum is exact or out of range, and a
 -- difference is exact and stops at zero.
+use Rattle.std.specs.Prelude.{Ok, Err}
 use mathlib.Core.Path.{◌≡◌, refl, sym, ◌∙◌}
 use mathlib.Core.Logic.{◌↔◌}
 use mathlib.Core.Bool.{true, false}
@@ -10,7 +11,6 @@ use borrow.Author.Tests.{leb-true, leb-false}
 use Rattle.serialize.proofs.Choice.{by_test}
 use Rattle.times.specs.Times.{second, time, zero, whole, clock, added, past, due, since, settled}
 use Rattle.times.specs.declared.Time.{Time}
-use Rattle.times.specs.declared.Added.TheVariants.{Clock, OutOfRange}
 use Rattle.times.proofs.Sums.{added_over, added_below, since_zero}
 
 -- ---- the clock
@@ -31,8 +31,8 @@ pub record Sum (t step c : Time) : Type 0 where
 
 module _ (t step : Time) where
   -- a sum is out of range or a clock, and which follows from its size
-  by_range : {A : Type 0} → (2 ^ 64 * second ≤ whole t + whole step → added t step ≡ OutOfRange → A) →
-      (whole t + whole step < 2 ^ 64 * second → added t step ≡ Clock (clock (whole t + whole step)) → A) → A
+  by_range : {A : Type 0} → (2 ^ 64 * second ≤ whole t + whole step → added t step ≡ Err 20 → A) →
+      (whole t + whole step < 2 ^ 64 * second → added t step ≡ Ok (clock (whole t + whole step)) → A) → A
   by_range f g =
       by_test (leb (2 ^ 64 * second) (whole t + whole step))
       (λ b. let h = leb-true (2 ^ 64 * second) (whole t + whole step) b in f h (added_over t step h))
@@ -41,16 +41,16 @@ module _ (t step : Time) where
   clock_sum : whole t + whole step < 2 ^ 64 * second → Sum t step (clock (whole t + whole step))
   clock_sum h = record { exact = omega arith; small = omega arith; word = omega arith }
 
-  pub added_clock : (c : Time) → added t step ≡ Clock c → Sum t step c
+  pub added_clock : (c : Time) → added t step ≡ Ok c → Sum t step c
   added_clock c e =
       by_range
       (λ h o. let z : ◌≡◌ {A = ℕ} 0 1 = cc in omega arith)
       (λ h o. let k : clock (whole t + whole step) ≡ c = cc in rw k at (clock_sum h))
 
-  over : added t step ≡ OutOfRange → 2 ^ 64 * second ≤ whole t + whole step
+  over : added t step ≡ Err 20 → 2 ^ 64 * second ≤ whole t + whole step
   over e = by_range (λ h o. h) (λ h o. let z : ◌≡◌ {A = ℕ} 0 1 = cc in omega arith)
 
-  pub added_out : (added t step ≡ OutOfRange) ↔ (2 ^ 64 * second ≤ whole t + whole step)
+  pub added_out : (added t step ≡ Err 20) ↔ (2 ^ 64 * second ≤ whole t + whole step)
   added_out = (over, added_over t step)
 
 -- ---- a difference

@@ -1,6 +1,8 @@
 -- Sums and differences of whole nanoseconds: seconds and nanoseconds apart, with the carry or the borrow, are the quotient and the
 -- remainder of the whole.
-use mathlib.Core.Path.{◌≡◌, sym, ap, ap₂, ◌∙◌}
+use Rattle.std.specs.Prelude.{Ok, Err}
+use Rattle.std.specs.Int.{from_bool}
+use mathlib.Core.Path.{◌≡◌, refl, sym, ap, ap₂, ◌∙◌}
 use mathlib.Core.Bool.{Bool, true, false}
 use Prim.Native.Nat.{ℕ, ◌+◌, ◌*◌, ◌-◌, ◌/◌, ◌%◌, ◌^◌, ◌≤◌, ◌<◌, min}
 use native.Mathlib.Omega.{arith}
@@ -10,7 +12,6 @@ use Rattle.serialize.specs.Choice.{pick}
 use Rattle.serialize.proofs.Choice.{by_test}
 use Rattle.times.specs.Times.{second, time, zero, whole, clock, added, before, since, settled, borrowed}
 use Rattle.times.specs.declared.Time.{Time}
-use Rattle.times.specs.declared.Added.TheVariants.{Clock, OutOfRange}
 
 pub borrows : (nanos less : ℕ) → nanos < less → borrowed nanos less ≡ 1
 unfolding borrowed pick
@@ -21,11 +22,11 @@ unfolding borrowed pick
 borrows_none nanos less h = simp (le-ltb _ _ h)
 
 module _ (t step : Time) where
-  pub added_over : 2 ^ 64 * second ≤ whole t + whole step → added t step ≡ OutOfRange
+  pub added_over : 2 ^ 64 * second ≤ whole t + whole step → added t step ≡ Err 20
   unfolding added pick
   added_over h = simp (le-leb _ _ h)
 
-  pub added_below : whole t + whole step < 2 ^ 64 * second → added t step ≡ Clock (clock (whole t + whole step))
+  pub added_below : whole t + whole step < 2 ^ 64 * second → added t step ≡ Ok (clock (whole t + whole step))
   unfolding added pick
   added_below h = simp (lt-leb _ _ h)
 
@@ -36,19 +37,19 @@ module _ (t step : Time) where
   abbrev carry : ℕ
   carry = t.nanos / second + step.nanos / second + rest / second
 
-  pub add_far : 18446744073709551615 - t.secs < step.secs → OutOfRange ≡ added t step
+  pub add_far : 18446744073709551615 - t.secs < step.secs → Err 20 ≡ added t step
   add_far h = sym (added_over (omega arith))
 
   pub add_carries_out : step.secs ≤ 18446744073709551615 - t.secs → 18446744073709551615 - (t.secs + step.secs) < carry →
-      OutOfRange ≡ added t step
+      Err 20 ≡ added t step
   add_carries_out h g = sym (added_over (omega arith))
 
   pub add_clock : t.secs < 2 ^ 64 → step.secs ≤ 18446744073709551615 - t.secs → carry ≤ 18446744073709551615 - (t.secs + step.secs) →
-      Clock (time (t.secs + step.secs + carry) (rest % second)) ≡ added t step
+      Ok (time (t.secs + step.secs + carry) (rest % second)) ≡ added t step
   add_clock b h g =
       let p : t.secs + step.secs + carry ≡ (whole t + whole step) / second = omega arith in
       let q : rest % second ≡ (whole t + whole step) % second = omega arith in
-      ap₂ (λ (x y : ℕ). Clock (time x y)) p q ∙ sym (added_below (omega arith))
+      ap₂ (λ (x y : ℕ). Ok (time x y)) p q ∙ sym (added_below (omega arith))
 
 module _ (up give take rest : ℕ) (word : up < 2 ^ 64) where
   pub settle_down : give ≤ take → take ≤ up + give → time (up - (take - give)) rest ≡ settled (up + give - take) rest
@@ -82,6 +83,16 @@ apart t then one e =
     by_test (ltb n l)
     (λ b. let h : n < l = ltb-true n l b in let k : one ≡ 1 = e ∙ borrows n l h in omega arith)
     (λ b. let h : l ≤ n = ltb-false n l b in let k : one ≡ 0 = e ∙ borrows_none n l h in omega arith)
+
+-- as the code borrows: the library's number of the test
+borrow_from : (b : Bool) → from_bool b ≡ pick {A = ℕ} b 1 0
+unfolding pick
+borrow_from true = refl
+borrow_from false = refl
+
+pub apart_from : (t then : Time) (one : ℕ) → one ≡ from_bool (ltb (t.nanos % second) (then.nanos % second)) → Apart t then one
+unfolding borrowed
+apart_from t then one e = apart t then one (e ∙ borrow_from (ltb (t.nanos % second) (then.nanos % second)))
 
 module _ (t then : Time) {r : Bool} (e : r ≡ before t then) where
   pub later : r ≡ true → whole t ≤ whole then

@@ -1,10 +1,8 @@
 -- Times (document 01, "How the host answers": a time is seconds and nanoseconds; a time counts as its whole nanoseconds, and a stored
 -- one later than now is zero away; the clock keeps nanoseconds below 10^9). Of any two words.
-use Rattle.std.specs.Prelude.{ℕ, ◌+◌, ◌*◌, ◌-◌, ◌/◌, ◌%◌, ◌^◌, min, Bool, ltb, leb}
+use Rattle.std.specs.Prelude.{ℕ, ◌+◌, ◌*◌, ◌-◌, ◌/◌, ◌%◌, ◌^◌, min, Bool, ltb, leb, Result, Ok, Err}
 use Rattle.serialize.specs.Choice.{pick}
 use Rattle.times.specs.declared.Time.{Time}
-use Rattle.times.specs.declared.Added.{Added}
-use Rattle.times.specs.declared.Added.TheVariants.{Clock, OutOfRange}
 
 -- nanoseconds in a second
 abbrev pub second : ℕ
@@ -25,8 +23,8 @@ abbrev pub clock : ℕ → Time
 clock w = time (w / second) (w % second)
 
 -- the clock moved on by a step; 20 where its seconds would pass 64 bits
-unfoldable pub added : Time → Time → Added
-added t step = pick (leb (2 ^ 64 * second) (whole t + whole step)) OutOfRange (Clock (clock (whole t + whole step)))
+unfoldable pub added : Time → Time → Result Time ℕ
+added t step = pick (leb (2 ^ 64 * second) (whole t + whole step)) (Err 20) (Ok (clock (whole t + whole step)))
 
 -- a < b
 abbrev pub before : Time → Time → Bool

@@ -2,8 +2,10 @@
 // difference is of those, exact, though they pass 64 bits.
 #![tactic(auto)]
 
-ghost use Rattle.std.specs.Prelude.{◌≡◌, ◌+◌, ◌*◌, ◌-◌, ◌<◌, ◌≤◌, min, ltb};
-ghost use Rattle.times.specs.Times.{whole, zero, added, before, past, due, since, settled, borrowed};
+ghost use Rattle.std.specs.Prelude.{◌≡◌, ◌+◌, ◌*◌, ◌-◌, ◌<◌, ◌≤◌, ltb};
+ghost use Rattle.times.specs.Times.{whole, zero, added, before, past, due, since, settled};
+
+use refusal::{Refusal, Why};
 
 // Nanoseconds in a second.
 const SECOND: u64 = 1_000_000_000;
@@ -22,33 +24,6 @@ pub struct Time {
     pub nanos: u64,
 }
 
-// A clock that has been moved on, or that would pass its range (refusal 20).
-#[derive(Clone, Copy)]
-pub enum Added {
-    Clock(Time),
-    OutOfRange,
-}
-
-// How far b is below a, and 0 where it is not.
-fn below(a: u64, b: u64) -> u64
-    ensures { result ≡ a - b }
-{
-    if b < a { a - b } else { 0 }
-}
-
-fn smaller(a: u64, b: u64) -> u64
-    ensures { result ≡ min a b }
-{
-    if a < b { a } else { b }
-}
-
-// The second that a difference of nanoseconds borrows.
-fn borrow(nanos: u64, less: u64) -> u64
-    ensures { result ≡ borrowed nanos less }
-{
-    if nanos < less { 1 } else { 0 }
-}
-
 // The seconds up + give - take, as many as a word holds, and what is over as nanoseconds with the rest.
 fn settle(up: u64, give: u64, take: u64, rest: u64) -> Time
     requires { (take ≤ up + give) × (rest + (up + give - take - 18446744073709551615) * 1000000000 < 18446744073709551616) }
@@ -61,7 +36,7 @@ fn settle(up: u64, give: u64, take: u64, rest: u64) -> Time
         };
     }
     let extra = give - take;
-    let fits = smaller(extra, MOST - up);
+    let fits = extra.min(MOST - up);
     Time {
         secs: up + fits,
         nanos: rest + (extra - fits) * SECOND,
@@ -75,20 +50,20 @@ impl Time {
         Time { secs: 0, nanos: 0 }
     }
 
-    // The clock moved on by a step, its nanoseconds below a second.
-    pub fn add(self, step: Time) -> Added
+    // The clock moved on by a step, its nanoseconds below a second; no clock passes its range.
+    pub fn add(self, step: Time) -> Result<Time, Refusal>
         ensures { result ≡ added self step }
     {
         let nanos = self.nanos % SECOND + step.nanos % SECOND;
         let carry = self.nanos / SECOND + step.nanos / SECOND + nanos / SECOND;
         if step.secs > MOST - self.secs {
-            return Added::OutOfRange;
+            return Err(Refusal(Why::ClockOver));
         }
         let secs = self.secs + step.secs;
         if carry > MOST - secs {
-            return Added::OutOfRange;
+            return Err(Refusal(Why::ClockOver));
         }
-        Added::Clock(Time {
+        Ok(Time {
             secs: secs + carry,
             nanos: nanos % SECOND,
         })
@@ -100,18 +75,18 @@ impl Time {
         ensures { result ≡ ltb (whole self + secs * 1000000000 + nanos) (whole «now») }
     {
         let rest = self.nanos % SECOND + nanos as u64;
-        let late = smaller(below(self.secs, now.secs), FAR)
+        let late = self.secs.saturating_sub(now.secs).min(FAR)
             + self.nanos / SECOND
             + secs as u64
             + rest / SECOND;
-        let early = smaller(below(now.secs, self.secs), FAR) + now.nanos / SECOND;
+        let early = now.secs.saturating_sub(self.secs).min(FAR) + now.nanos / SECOND;
         if late != early {
             return late < early;
         }
         rest % SECOND < now.nanos % SECOND
     }
 
-    // self < other. Of two times as a clock shows them the seconds decide, and then the nanoseconds.
+    // self < other, by whole nanoseconds and so by no derived order. Of two times as a clock shows them the seconds decide, and then the nanoseconds.
     pub fn is_before(self, other: Time) -> bool
         ensures { result ≡ before self other }
     {
@@ -150,9 +125,10 @@ impl Time {
         }
         let nanos = self.nanos % SECOND;
         let less = then.nanos % SECOND;
-        let one = borrow(nanos, less);
-        let up = below(self.secs, then.secs);
-        let take = below(then.secs, self.secs) + then.nanos / SECOND + one;
+        // The second that a difference of nanoseconds borrows.
+        let one = u64::from(nanos < less);
+        let up = self.secs.saturating_sub(then.secs);
+        let take = then.secs.saturating_sub(self.secs) + then.nanos / SECOND + one;
         settle(up, self.nanos / SECOND, take, nanos + one * SECOND - less)
     }
 }

@@ -1,6 +1,6 @@
 -- What a call about a datagram comes to (document 01, "How the host answers": a call that needs the cipher ends in an ask; one ask may be
 -- open; "When the server says no": a refusal changes nothing but what its line says).
-use Rattle.std.specs.Prelude.{ℕ, ◌+◌, List, ltb}
+use Rattle.std.specs.Prelude.{ℕ, ◌+◌, List, ltb, Result, Ok, Err}
 use Rattle.serialize.specs.Choice.{pick}
 use Rattle.server.specs.declared.NetcodeServer.{NetcodeServer}
 use Rattle.server.specs.declared.Stage.{Stage}
@@ -9,7 +9,7 @@ use Rattle.server.specs.declared.Answer.{Answer}
 use Rattle.server.specs.declared.Answer.TheVariants.{Refused, Ask}
 use Rattle.server.specs.State.{with_ask, with_counters, counted, opened, idle}
 use Rattle.server.specs.Asking.{no_ask}
-use Rattle.server.specs.Ready.{answer_refusal, before}
+use Rattle.server.specs.Ready.{answer_refusal, answer_verdict, before, next_to}
 use Rattle.turns.specs.declared.Turn.{Turn}
 
 -- ---- the record as a call leaves it, its answer, and what the host is asked for
@@ -96,3 +96,7 @@ written o held out = record { outcome = o; held = held; out = out }
 
 unfoldable pub open_refusal : NetcodeServer → ℕ → ℕ → ℕ → ℕ → ℕ
 open_refusal s tables kind datagram out = before (answer_refusal s.ask tables kind s.set datagram out) (pick (ltb out 1400) 18 0)
+
+-- the same of what the tables' test came to
+unfoldable pub open_verdict : NetcodeServer → Result (Unit {0}) ℕ → ℕ → ℕ → ℕ → Result (Unit {0}) ℕ
+open_verdict s tables kind datagram out = next_to (answer_verdict s.ask tables kind s.set datagram out) (pick (ltb out 1400) (Err 18) (Ok tt))

@@ -2,9 +2,11 @@
 #![tactic(auto)]
 
 ghost use Rattle.std.specs.Prelude.{◌≡◌};
-ghost use Rattle.turns.specs.Outcomes.{answered, refused, closed, asking, open_refusal};
+ghost use Rattle.server.specs.Ready.{code_of};
+ghost use Rattle.turns.specs.Outcomes.{answered, refused, closed, asking, open_verdict};
 
-use server::{Answer, Ask, NetcodeServer, OpenAsk, Stage};
+use refusal::{Refusal, Why};
+use server::{Answer, Ask, NetcodeServer, OpenAsk, Stage, Wanted};
 
 mod packets;
 
@@ -14,7 +16,7 @@ pub use packets::{deny, keep_alive, write_packet, write_packet_with};
 pub const NETCODE_MAX_PACKET_BYTES: usize = 1400;
 
 // A counter that can't be raised.
-pub const MOST: u64 = 0xffff_ffff_ffff_ffff;
+pub const MOST: u64 = u64::MAX;
 
 // The record as a call leaves it, what the call comes to, and, where that is an ask, what the host is asked for.
 #[derive(Clone, Copy)]
@@ -35,10 +37,10 @@ pub fn answered(server: NetcodeServer, answer: Answer) -> Turn
     }
 }
 
-pub fn refused(server: NetcodeServer, number: u8) -> Turn
-    ensures { result ≡ refused server number }
+pub fn refused(server: NetcodeServer, refusal: Refusal) -> Turn
+    ensures { result ≡ refused server refusal }
 {
-    answered(server, Answer::Refused(number))
+    answered(server, Answer::Refused(refusal))
 }
 
 // The call is over: no ask is open.
@@ -69,18 +71,19 @@ pub fn asking(server: NetcodeServer, stage: Stage, datagram: usize, out: usize, 
     }
 }
 
-// 17, 23, 18 for an answer to an ask to open, `tables` being what the tables' test gave.
-pub fn open_refusal(server: NetcodeServer, tables: u8, kind: u8, datagram: usize, out: usize) -> u8
-    ensures { result ≡ open_refusal server tables kind datagram out }
+// 17, 23, 18 for an answer to an ask to open, `tables` being what the tables' test came to.
+pub fn open_refusal(
+    server: NetcodeServer,
+    tables: Result<(), Refusal>,
+    kind: Wanted,
+    datagram: usize,
+    out: usize,
+) -> Result<(), Refusal>
+    ensures { result ≡ open_verdict server tables (code_of kind) datagram out }
 {
-    let set = server.set;
-    let ask = server.ask;
-    let refusal = server::answer_refusal(ask, tables, kind, set, datagram, out);
-    if refusal != 0 {
-        return refusal;
-    }
+    server::answer_refusal(server.ask, tables, kind, server.set, datagram, out)?;
     if out < NETCODE_MAX_PACKET_BYTES {
-        return 18;
+        return Err(Refusal(Why::AnswerUnfit));
     }
-    0
+    Ok(())
 }

@@ -7,8 +7,8 @@ ghost use Rattle.turns.specs.Packets.{keep_alive, seal_ask_with, seal_out_with, 
 
 use crate::{MOST, Turn};
 use addresses::Address;
-use asks::PrivateKey;
 use bodies::Packet;
+use refusal::{Refusal, Why};
 use server::{Answer, Ask, Goal, NetcodeServer, Stage};
 
 // A slot's keep-alive.
@@ -34,13 +34,8 @@ pub fn write_packet_with(
     requires { (is_request (kind_of packet) ≡ false) × (wants (kind_of packet) ≡ 0) × (need (kind_of packet) (length bytes.now) sequence ≤ length out.old) }
     ensures { sealing result out.new ≡ sealing (seal_ask_with packet (length bytes.now) protocol_id key sequence) (seal_out_with out.old packet bytes.now sequence) }
 {
-    let private_key = PrivateKey {
-        given: true,
-        bytes: key,
-    };
-    let encoded = encode::encode(out, packet, bytes, protocol_id, private_key, sequence);
-    let ask = encoded.ask;
-    server::packet_ask(ask)
+    let encoded = encode::encode(out, packet, bytes, protocol_id, Some(key), sequence);
+    server::packet_ask(encoded.ask)
 }
 
 // A packet that has no bytes beside it.
@@ -73,7 +68,7 @@ pub fn deny(
     let counters = server.counters;
     let sequence = counters.global_sequence;
     if sequence == MOST {
-        return crate::closed(server, Answer::Refused(15));
+        return crate::closed(server, Answer::Refused(Refusal(Why::CounterSpent)));
     }
     let len = out.len();
     let ask = write_packet(

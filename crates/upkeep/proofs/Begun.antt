@@ -1,5 +1,6 @@
 -- Set-up comes to one of three ends, by its tests and its start time: so what is promised of each follows from its definition, and what it
 -- leaves of the tables from what clearing leaves.
+use Rattle.std.specs.Prelude.{Result, Ok, Err}
 use mathlib.Core.Path.{◌≡◌, refl, sym, ap, subst, ◌∙◌}
 use mathlib.Core.Logic.{◌↔◌}
 use mathlib.Core.Bool.{Bool, true, false, not}
@@ -14,8 +15,6 @@ use Rattle.serialize.specs.Runs.{zeros}
 use Rattle.serialize.proofs.Choice.{by_test}
 use Rattle.serialize.proofs.Lists.{length_splice}
 use Rattle.times.specs.declared.Time.{Time}
-use Rattle.times.specs.declared.Added.{Added}
-use Rattle.times.specs.declared.Added.TheVariants.{Clock, OutOfRange}
 use Rattle.times.specs.Times.{second, zero, whole, added}
 use Rattle.times.proofs.Meaning.{added_clock, added_out}
 use Rattle.addresses.specs.Addresses as listed
@@ -28,15 +27,15 @@ use Rattle.server.specs.State.{refused}
 use Rattle.server.specs.Ready.{length_refusal, slots_refusal, pending_refusal, before}
 use Rattle.server.proofs.Inversions.{Taken, length_exactly, entries_exactly, list_exactly, neither, idle_passes}
 use Rattle.upkeep.specs.declared.ServerConfig.{ServerConfig}
-use Rattle.upkeep.specs.SetUps.{connect_key, begun, found, blank, lengths_refusal, set_up_refusal, not_set_up, Outcome, done, cleared, set_up}
+use Rattle.upkeep.specs.SetUps.{connect_key, begun, found, blank, lengths_refusal, set_up_refusal, refusal_of, record_of, Outcome, done, cleared, set_up}
 use Rattle.upkeep.specs.Fresh.{Fresh, Why, Lengths, Malformed, Range, Unstarted}
 use Rattle.upkeep.specs.Clocks as clocks
 use Rattle.upkeep.proofs.Tested.{Tested, tested, tests_exactly, slots_shaped, pending_shaped}
-use Rattle.upkeep.proofs.Ways.{set_up_stops, set_up_late, set_up_done, update_stops}
+use Rattle.upkeep.proofs.Ways.{added_late, set_up_stops, set_up_late, set_up_done, update_stops}
 
-pub by_sum : {A : Type 0} (a : Added) → ((t : Time) → a ≡ Clock t → A) → (a ≡ OutOfRange → A) → A
-by_sum (Clock t) f g = f t refl
-by_sum OutOfRange f g = g refl
+pub by_sum : {A : Type 0} (a : Result Time ℕ) → ((t : Time) → a ≡ Ok t → A) → ((n : ℕ) → a ≡ Err n → A) → A
+by_sum (Ok t) f g = f t refl
+by_sum (Err n) f g = g n refl
 
 -- clearing a table keeps its length
 cleared_length : (t : List ℕ) (n : ℕ) → n ≤ length t → length (cleared t n) ≡ length t
@@ -67,14 +66,14 @@ module _ (c : ServerConfig) (slots pending entries public : List ℕ) where
   abbrev tests : ℕ
   tests = set_up_refusal c.max_clients slots pending entries public
 
-  abbrev start : Added
+  abbrev start : Result Time ℕ
   start = added zero c.current_time
 
   -- the three ends
-  by_end : {A : Type 0} → ((tests ≡ 0 → ⊥) → done (not_set_up tests) slots pending entries ≡ set_up c slots pending entries public → A)
-      → (tests ≡ 0 → start ≡ OutOfRange → done (not_set_up 20) slots pending entries ≡ set_up c slots pending entries public → A)
-      → (tests ≡ 0 → (t : Time) → start ≡ Clock t
-      → done (record { refusal = 0; server = begun (found c slots pending entries public) c.max_clients t }) (cleared slots (count slots))
+  by_end : {A : Type 0} → ((tests ≡ 0 → ⊥) → done (Err tests) slots pending entries ≡ set_up c slots pending entries public → A)
+      → (tests ≡ 0 → start ≡ Err 20 → done (Err 20) slots pending entries ≡ set_up c slots pending entries public → A)
+      → (tests ≡ 0 → (t : Time) → start ≡ Ok t
+      → done (Ok (begun (found c slots pending entries public) c.max_clients t)) (cleared slots (count slots))
       (cleared pending (count pending)) (cleared entries (entry.count entries)) ≡ set_up c slots pending entries public → A)
       → A
   by_end f g h =
@@ -86,12 +85,15 @@ module _ (c : ServerConfig) (slots pending entries public : List ℕ) where
       (count slots) (count pending) (entry.count entries) refl refl refl
       (cleared slots (count slots)) (cleared pending (count pending)) (cleared entries (entry.count entries)) refl refl refl
       (found c slots pending entries public) refl (begun (found c slots pending entries public) c.max_clients t) refl))
-      (λ e. g free e (set_up_late c slots pending entries public tests refl free zero refl start refl e (not_set_up 20) refl)))
-      (λ b. let n = eqb-false tests 0 b in f n (set_up_stops c slots pending entries public tests refl n (not_set_up tests) refl))
+      (λ n e.
+      let late : n ≡ 20 = added_late zero c.current_time n e in
+      let is : start ≡ Err 20 = e ∙ ap (λ (x : ℕ). Err x) late in
+      g free is (set_up_late c slots pending entries public tests refl free zero refl start refl 20 is)))
+      (λ b. let n = eqb-false tests 0 b in f n (set_up_stops c slots pending entries public tests refl n))
 
   -- ---- set up
 
-  fresh : tests ≡ 0 → (t : Time) → start ≡ Clock t → Fresh c (begun (found c slots pending entries public) c.max_clients t)
+  fresh : tests ≡ 0 → (t : Time) → start ≡ Ok t → Fresh c (begun (found c slots pending entries public) c.max_clients t)
       (cleared slots (count slots)) (cleared pending (count pending)) (cleared entries (entry.count entries)) public
   fresh free t e =
       let k = tested c.max_clients slots pending entries public tests refl free in
@@ -125,23 +127,23 @@ module _ (c : ServerConfig) (slots pending entries public : List ℕ) where
       }
 
   -- what a set-up that does not refuse leaves
-  pub set_up_fresh : (set_up c slots pending entries public).result.refusal ≡ 0
-      → Fresh c (set_up c slots pending entries public).result.server (set_up c slots pending entries public).slots
+  pub set_up_fresh : refusal_of (set_up c slots pending entries public).result ≡ 0
+      → Fresh c (record_of (set_up c slots pending entries public).result) (set_up c slots pending entries public).slots
       (set_up c slots pending entries public).pending (set_up c slots pending entries public).entries public
   set_up_fresh z =
       by_end
-      (λ n e. absurd (n (ap (λ (o : Outcome). o.result.refusal) e ∙ z)))
-      (λ free q e. let x : 20 ≡ 0 = ap (λ (o : Outcome). o.result.refusal) e ∙ z in absurd (omega arith))
-      (λ free t q e. subst (λ (o : Outcome). Fresh c o.result.server o.slots o.pending o.entries public) e (fresh free t q))
+      (λ n e. absurd (n (ap (λ (o : Outcome). refusal_of o.result) e ∙ z)))
+      (λ free q e. let x : 20 ≡ 0 = ap (λ (o : Outcome). refusal_of o.result) e ∙ z in absurd (omega arith))
+      (λ free t q e. subst (λ (o : Outcome). Fresh c (record_of o.result) o.slots o.pending o.entries public) e (fresh free t q))
 
   -- and set-up refuses nothing exactly where all tests are passed and the start time's seconds fit a word, its nanoseconds carried
-  pub set_up_exactly : ((set_up c slots pending entries public).result.refusal ≡ 0)
+  pub set_up_exactly : (refusal_of (set_up c slots pending entries public).result ≡ 0)
       ↔ (Tested c.max_clients slots pending entries public × (whole c.current_time < 2 ^ 64 * second))
   set_up_exactly = (
     λ z.
         by_end
-        (λ n e. absurd (n (ap (λ (o : Outcome). o.result.refusal) e ∙ z)))
-        (λ free q e. let x : 20 ≡ 0 = ap (λ (o : Outcome). o.result.refusal) e ∙ z in absurd (omega arith))
+        (λ n e. absurd (n (ap (λ (o : Outcome). refusal_of o.result) e ∙ z)))
+        (λ free q e. let x : 20 ≡ 0 = ap (λ (o : Outcome). refusal_of o.result) e ∙ z in absurd (omega arith))
         (λ free t q e.
         let sum = added_clock zero c.current_time t q in
         (tested c.max_clients slots pending entries public tests refl free, omega (arith, sum.exact, sum.small, sum.word))),
@@ -149,7 +151,7 @@ module _ (c : ServerConfig) (slots pending entries public : List ℕ) where
         by_end
         (λ n e. absurd (n ((tests_exactly c.max_clients slots pending entries public).1 k.0)))
         (λ free q e. absurd (omega (arith, (added_out zero c.current_time).0 q, k.1)))
-        (λ free t q e. ap (λ (o : Outcome). o.result.refusal) (sym e)),
+        (λ free t q e. ap (λ (o : Outcome). refusal_of o.result) (sym e)),
   )
 
   -- ---- refused
@@ -181,7 +183,7 @@ module _ (c : ServerConfig) (slots pending entries public : List ℕ) where
       subst (Why c slots pending entries public) (sym (same ∙ x)) (Lengths x))
 
   -- a set-up that refuses leaves the tables, and says by its number which test was the first to fail
-  pub set_up_refused : ((set_up c slots pending entries public).result.refusal ≡ 0 → ⊥)
+  pub set_up_refused : (refusal_of (set_up c slots pending entries public).result ≡ 0 → ⊥)
       → Unstarted c slots pending entries public (set_up c slots pending entries public)
   set_up_refused n =
       by_end
@@ -189,9 +191,9 @@ module _ (c : ServerConfig) (slots pending entries public : List ℕ) where
       (λ free q e.
       let (l, f) = neither (lengths_refusal c.max_clients slots pending entries public) (listed.list_refusal public) free in
       subst (Unstarted c slots pending entries public) e (unstarted 20 (Range l f q)))
-      (λ free t q e. absurd (n (ap (λ (o : Outcome). o.result.refusal) (sym e))))
+      (λ free t q e. absurd (n (ap (λ (o : Outcome). refusal_of o.result) (sym e))))
     where
-      unstarted : (r : ℕ) → Why c slots pending entries public r → Unstarted c slots pending entries public (done (not_set_up r) slots pending entries)
+      unstarted : (r : ℕ) → Why c slots pending entries public r → Unstarted c slots pending entries public (done (Err r) slots pending entries)
       unstarted r y = record { same_slots = refl; same_pending = refl; same_entries = refl; placeless = refl; why = y }
 
 -- ---- the record beside a refusal: every call that is lent a table of connections refuses it

@@ -1,5 +1,6 @@
 -- What the clock's call and the limit's come to, from the definitions alone: marks are new and nothing else, so every field but the mark is
 -- kept, and a place stays used exactly where its mark does.
+use Rattle.std.specs.Prelude.{Ok, Err}
 use mathlib.Core.Path.{◌≡◌, refl, sym, ap, subst, ◌∙◌}
 use mathlib.Core.Logic.{◌↔◌}
 use mathlib.Core.Bool.{Bool, true, false, not, ◌&&◌, and-eq-true_iff}
@@ -14,7 +15,6 @@ use Rattle.serialize.specs.Choice.{pick}
 use Rattle.serialize.proofs.Choice.{by_test}
 use Rattle.serialize.proofs.Lists.{get_or_splice_in, part_splice_after}
 use Rattle.times.specs.declared.Time.{Time}
-use Rattle.times.specs.declared.Added.TheVariants.{Clock, OutOfRange}
 use Rattle.times.specs.Times.{second, whole, added}
 use Rattle.times.proofs.Meaning.{added_clock, added_out}
 use Rattle.places.specs.Layout.{Shaped, place_words, used_mark, used_at, word_of, expiry_at}
@@ -31,7 +31,7 @@ use Rattle.server.proofs.Inversions.{call_free, pending_shaped, open_refused, id
 use Rattle.upkeep.specs.Clocks.{mark_left, marks_left, dropped, Outcome, done, update_refusal, updated}
 use Rattle.upkeep.specs.Limits.{limited}
 use Rattle.upkeep.proofs.Marks.{expired_left, lasting_left, length_marks, mark_at, half_shaped}
-use Rattle.upkeep.proofs.Ways.{update_stops, update_late, update_done, limit_stops, limit_done}
+use Rattle.upkeep.proofs.Ways.{added_late, update_stops, update_late, update_done, limit_stops, limit_done}
 use Rattle.upkeep.proofs.Begun.{by_sum}
 
 -- ---- what is dropped
@@ -118,7 +118,7 @@ answers_differ n e = let z : ◌≡◌ {A = ℕ} 0 1 = cc in omega arith
 pub data Stopped (s : NetcodeServer) (pending : List ℕ) (duration : Time) : ℕ → Type 0 where
   Asking : (s.ask.stage ≡ Idle → ⊥) → Stopped s pending duration 16
   Tables : s.ask.stage ≡ Idle → pending_refusal s.set (length pending) ≡ 23 → Stopped s pending duration 23
-  Late : s.ask.stage ≡ Idle → pending_refusal s.set (length pending) ≡ 0 → added s.current_time duration ≡ OutOfRange
+  Late : s.ask.stage ≡ Idle → pending_refusal s.set (length pending) ≡ 0 → added s.current_time duration ≡ Err 20
       → Stopped s pending duration 20
 
 module _ (s : NetcodeServer) (pending : List ℕ) (duration : Time) where
@@ -128,7 +128,7 @@ module _ (s : NetcodeServer) (pending : List ℕ) (duration : Time) where
   abbrev tests : ℕ
   tests = update_refusal s pending
 
-  moved : tests ≡ 0 → (t : Time) → added s.current_time duration ≡ Clock t
+  moved : tests ≡ 0 → (t : Time) → added s.current_time duration ≡ Ok t
       → Moved s pending duration (done (step (with_clock s t) Nothing) (dropped pending s.set.pending t.secs))
   unfolding with_clock
   moved free t e =
@@ -149,8 +149,8 @@ module _ (s : NetcodeServer) (pending : List ℕ) (duration : Time) where
 
   -- the three ends: refused by a test, out of range, taken
   by_end : {A : Type 0} → ((tests ≡ 0 → ⊥) → done (refused s tests) pending ≡ updated s pending duration → A)
-      → (tests ≡ 0 → added s.current_time duration ≡ OutOfRange → done (refused s 20) pending ≡ updated s pending duration → A)
-      → (tests ≡ 0 → (t : Time) → added s.current_time duration ≡ Clock t
+      → (tests ≡ 0 → added s.current_time duration ≡ Err 20 → done (refused s 20) pending ≡ updated s pending duration → A)
+      → (tests ≡ 0 → (t : Time) → added s.current_time duration ≡ Ok t
       → done (step (with_clock s t) Nothing) (dropped pending s.set.pending t.secs) ≡ updated s pending duration → A)
       → A
   by_end f g h =
@@ -160,7 +160,10 @@ module _ (s : NetcodeServer) (pending : List ℕ) (duration : Time) where
       by_sum (added s.current_time duration)
       (λ t e. h free t e (update_done s pending duration tables refl tests refl free (added s.current_time duration) refl t e
       (dropped pending s.set.pending t.secs) refl (with_clock s t) refl))
-      (λ e. g free e (update_late s pending duration tables refl tests refl free (added s.current_time duration) refl e)))
+      (λ n e.
+      let late : n ≡ 20 = added_late s.current_time duration n e in
+      let is : added s.current_time duration ≡ Err 20 = e ∙ ap (λ (x : ℕ). Err x) late in
+      g free is (update_late s pending duration tables refl tests refl free (added s.current_time duration) refl 20 is)))
       (λ b. let n = eqb-false tests 0 b in f n (update_stops s pending duration tables refl tests refl n))
 
   pub update_moves : (updated s pending duration).result.answer ≡ Nothing → Moved s pending duration (updated s pending duration)

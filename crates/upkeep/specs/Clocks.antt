@@ -1,11 +1,9 @@
 -- The clock (document 01, "How a connection lives": `update` adds, then drops pending where seconds > expiry; "When the server says no": 16
 -- comes first, 23 follows it, 20 where the clock would pass its range).
-use Rattle.std.specs.Prelude.{ℕ, zero, suc, ◌&&◌, List, [], ◌∷◌, ◌++◌, length, get_or, eqb, ltb}
+use Rattle.std.specs.Prelude.{ℕ, zero, suc, ◌&&◌, List, [], ◌∷◌, ◌++◌, length, get_or, eqb, ltb, Result, Ok, Err}
 use Rattle.serialize.specs.Choice.{pick}
 use Rattle.serialize.specs.Runs.{splice}
 use Rattle.times.specs.declared.Time.{Time}
-use Rattle.times.specs.declared.Added.{Added}
-use Rattle.times.specs.declared.Added.TheVariants.{Clock, OutOfRange}
 use Rattle.times.specs.Times.{added}
 use Rattle.places.specs.Layout.{used_at, word_of, expiry_at}
 use Rattle.server.specs.declared.NetcodeServer.{NetcodeServer}
@@ -36,9 +34,9 @@ abbrev pub done : Step → List ℕ → Outcome
 done result pending = record { result = result; pending = pending }
 
 -- the clock as it was moved on, or 20
-unfoldable pub by_clock : NetcodeServer → List ℕ → Added → Outcome
-by_clock s pending (Clock c) = done (step (with_clock s c) Nothing) (dropped pending s.set.pending c.secs)
-by_clock s pending OutOfRange = done (refused s 20) pending
+unfoldable pub by_clock : NetcodeServer → List ℕ → Result Time ℕ → Outcome
+by_clock s pending (Ok c) = done (step (with_clock s c) Nothing) (dropped pending s.set.pending c.secs)
+by_clock s pending (Err n) = done (refused s n) pending
 
 abbrev pub update_refusal : NetcodeServer → List ℕ → ℕ
 update_refusal s pending = call_refusal s.ask (pending_refusal s.set (length pending))

@@ -1,7 +1,6 @@
 -- What a server that begins has (document 01, "How the host answers": set-up empties all places; "What every promise pins down"), and why
 -- set-up refuses.
-use Rattle.std.specs.Prelude.{ℕ, ◌≤◌, ◌<◌, ◌≡◌, false, List, length, get_or}
-use Rattle.times.specs.declared.Added.TheVariants.{OutOfRange}
+use Rattle.std.specs.Prelude.{ℕ, ◌≤◌, ◌<◌, ◌≡◌, false, List, length, get_or, Err}
 use Rattle.times.specs.Times.{second, zero, whole, added}
 use Rattle.addresses.specs.Addresses as listed
 use Rattle.places.specs.Finds.{used_count}
@@ -13,7 +12,7 @@ use Rattle.server.specs.declared.Stage.TheVariants.{Idle}
 use Rattle.server.specs.State.{counted}
 use Rattle.server.specs.Ready.{slots_refusal, pending_refusal, entries_refusal, list_refusal}
 use Rattle.upkeep.specs.declared.ServerConfig.{ServerConfig}
-use Rattle.upkeep.specs.SetUps.{connect_key, blank, lengths_refusal, Outcome}
+use Rattle.upkeep.specs.SetUps.{connect_key, blank, lengths_refusal, refusal_of, record_of, Outcome}
 
 -- the record s and the tables, as set-up by c left them
 pub record Fresh (c : ServerConfig) (s : NetcodeServer) (slots pending entries public : List ℕ) : Type 0 where
@@ -49,12 +48,12 @@ pub data Why (c : ServerConfig) (slots pending entries public : List ℕ) : ℕ 
   Malformed : lengths_refusal c.max_clients slots pending entries public ≡ 0 → listed.list_refusal public ≡ 19
       → Why c slots pending entries public 19
   Range : lengths_refusal c.max_clients slots pending entries public ≡ 0 → listed.list_refusal public ≡ 0
-      → added zero c.current_time ≡ OutOfRange → Why c slots pending entries public 20
+      → added zero c.current_time ≡ Err 20 → Why c slots pending entries public 20
 
 -- what a set-up that refuses leaves: the tables as they were, and a record of no places
 pub record Unstarted (c : ServerConfig) (slots pending entries public : List ℕ) (o : Outcome) : Type 0 where
   pub same_slots : o.slots ≡ slots
   pub same_pending : o.pending ≡ pending
   pub same_entries : o.entries ≡ entries
-  pub placeless : o.result.server ≡ blank
-  pub why : Why c slots pending entries public o.result.refusal
+  pub placeless : record_of o.result ≡ blank
+  pub why : Why c slots pending entries public (refusal_of o.result)

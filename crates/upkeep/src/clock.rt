@@ -5,7 +5,7 @@ ghost use Rattle.places.specs.Layout.{Shaped};
 ghost use Rattle.upkeep.specs.Clocks.{mark_left, marks_left, done, updated};
 
 use server::{Answer, NetcodeServer, Step};
-use times::{Added, Time};
+use times::Time;
 
 // Place i is emptied where its token has expired: the seconds are past the expiry, not at it. Only a used place's body is looked at.
 fn drop_if_expired(pending: &mut [u64], m: usize, i: usize, secs: u64)
@@ -20,14 +20,13 @@ fn drop_if_expired(pending: &mut [u64], m: usize, i: usize, secs: u64)
     }
 }
 
+// By places, since a mark and its body stand in two columns.
 fn drop_expired(pending: &mut [u64], m: usize, secs: u64)
     requires { Shaped pending.old m }
     ensures { pending.new ≡ splice pending.old 0 (marks_left pending.old m secs m) }
 {
-    let mut i: usize = 0;
-    while i < m {
+    for i in 0..m {
         drop_if_expired(pending, m, i, secs);
-        i += 1;
     }
 }
 
@@ -37,8 +36,8 @@ pub fn update(server: NetcodeServer, pending: &mut [u64], duration: Time) -> Ste
 {
     let set = server.set;
     let ask = server.ask;
-    let refusal = server::call_refusal(ask, server::pending_refusal(set, pending.len()));
-    if refusal != 0 {
+    let tables = server::pending_refusal(set, pending.len());
+    if let Err(refusal) = server::call_refusal(ask, tables) {
         return Step {
             server,
             answer: Answer::Refused(refusal),
@@ -46,16 +45,16 @@ pub fn update(server: NetcodeServer, pending: &mut [u64], duration: Time) -> Ste
     }
     let current_time = server.current_time;
     match current_time.add(duration) {
-        Added::Clock(clock) => {
+        Ok(clock) => {
             drop_expired(pending, set.pending, clock.secs);
             Step {
                 server: server::with_clock(server, clock),
                 answer: Answer::Nothing,
             }
         }
-        Added::OutOfRange => Step {
+        Err(refusal) => Step {
             server,
-            answer: Answer::Refused(20),
+            answer: Answer::Refused(refusal),
         },
     }
 }

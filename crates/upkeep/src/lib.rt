@@ -1,7 +1,6 @@
 // Set-up, the clock and the limit: what the server does that takes no datagram and no cipher.
 #![tactic(auto)]
 
-use server::NetcodeServer;
 use times::Time;
 
 mod clock;
@@ -22,12 +21,4 @@ pub struct ServerConfig {
     pub secure: bool,
     pub connect_key: [u8; 32],
     pub challenge_key: [u8; 32],
-}
-
-// What set-up comes to: 0 and the record; or a refusal, and a record of no places, with which every call that is lent a table of
-// connections is 23.
-#[derive(Clone, Copy)]
-pub struct Started {
-    pub refusal: u8,
-    pub server: NetcodeServer,
 }

@@ -1,11 +1,13 @@
 // Set-up: the tables' lengths, the public addresses and the start time are tested, and every place is emptied.
 ghost use Rattle.std.specs.Prelude.{◌≡◌};
-ghost use Rattle.upkeep.specs.SetUps.{connect_key, fixed_as, begun, blank, lengths_refusal, set_up_refusal, done, not_set_up, set_up};
+ghost use Rattle.refusal.specs.Verdicts.{verdict};
+ghost use Rattle.upkeep.specs.SetUps.{connect_key, fixed_as, begun, lengths_refusal, set_up_refusal, done, set_up};
 
-use crate::{ServerConfig, Started};
+use crate::ServerConfig;
 use places::{NETCODE_MAX_CLIENTS, NETCODE_MAX_PENDING_CLIENTS};
+use refusal::{Refusal, Why};
 use server::{Counters, NetcodeServer, OpenAsk, SetUp, Stage};
-use times::{Added, Time};
+use times::Time;
 
 // The connect key of a server that is not secure is zeros, as in the Rust.
 fn connect_key(config: ServerConfig) -> [u8; 32]
@@ -60,26 +62,6 @@ fn fixed(
     }
 }
 
-// Beside a refusal: a record of no places.
-fn refused(refusal: u8) -> Started
-    ensures { result ≡ not_set_up refusal }
-{
-    let set = SetUp {
-        protocol_id: 0,
-        connect_key: [0; 32],
-        challenge_key: [0; 32],
-        secure: false,
-        slots: 0,
-        pending: 0,
-        entries: 0,
-        addresses: 0,
-    };
-    Started {
-        refusal,
-        server: begun(set, 0, Time::zero()),
-    }
-}
-
 // 23 for a table of no places, of too many, or of no whole number of them, and for a limit over the slots.
 fn lengths_refusal(
     max_clients: usize,
@@ -87,25 +69,19 @@ fn lengths_refusal(
     pending: &[u64],
     entries: &[u8],
     public_addresses: &[u64],
-) -> u8
-    ensures { result ≡ lengths_refusal max_clients slots.now pending.now entries.now public_addresses.now }
+) -> Result<(), Refusal>
+    ensures { result ≡ verdict (lengths_refusal max_clients slots.now pending.now entries.now public_addresses.now) }
 {
-    if places::places_refusal(slots, NETCODE_MAX_CLIENTS) != 0 {
-        return 23;
-    }
-    if places::places_refusal(pending, NETCODE_MAX_PENDING_CLIENTS) != 0 {
-        return 23;
-    }
-    if entries::entries_refusal(entries) != 0 {
-        return 23;
-    }
+    places::places_refusal(slots, NETCODE_MAX_CLIENTS)?;
+    places::places_refusal(pending, NETCODE_MAX_PENDING_CLIENTS)?;
+    entries::entries_refusal(entries)?;
     if public_addresses.len() % 3 != 0 {
-        return 23;
+        return Err(Refusal(Why::TableUnfit));
     }
     if max_clients > places::count_places(slots) {
-        return 23;
+        return Err(Refusal(Why::TableUnfit));
     }
-    0
+    Ok(())
 }
 
 // 23, then 19 for a malformed public address.
@@ -115,13 +91,10 @@ fn set_up_refusal(
     pending: &[u64],
     entries: &[u8],
     public_addresses: &[u64],
-) -> u8
-    ensures { result ≡ set_up_refusal max_clients slots.now pending.now entries.now public_addresses.now }
+) -> Result<(), Refusal>
+    ensures { result ≡ verdict (set_up_refusal max_clients slots.now pending.now entries.now public_addresses.now) }
 {
-    let lengths = lengths_refusal(max_clients, slots, pending, entries, public_addresses);
-    if lengths != 0 {
-        return lengths;
-    }
+    lengths_refusal(max_clients, slots, pending, entries, public_addresses)?;
     addresses::list_refusal(public_addresses)
 }
 
@@ -132,34 +105,23 @@ pub fn set_up(
     pending: &mut [u64],
     entries: &mut [u8],
     public_addresses: &[u64],
-) -> Started
+) -> Result<NetcodeServer, Refusal>
     ensures { done result slots.new pending.new entries.new ≡ set_up config slots.old pending.old entries.old public_addresses.now }
 {
-    let refusal = set_up_refusal(
+    set_up_refusal(
         config.max_clients,
         slots,
         pending,
         entries,
         public_addresses,
-    );
-    if refusal != 0 {
-        return refused(refusal);
-    }
-    let current_time = config.current_time;
-    match Time::zero().add(current_time) {
-        Added::Clock(clock) => {
-            let n = places::count_places(slots);
-            let m = places::count_places(pending);
-            let k = entries::count_entries(entries);
-            records::empty_all(slots, n);
-            records::empty_all(pending, m);
-            entries::empty_entries(entries, k);
-            let set = fixed(config, n, m, k, public_addresses.len() / 3);
-            Started {
-                refusal: 0,
-                server: begun(set, config.max_clients, clock),
-            }
-        }
-        Added::OutOfRange => refused(20),
-    }
+    )?;
+    let clock = Time::zero().add(config.current_time)?;
+    let n = places::count_places(slots);
+    let m = places::count_places(pending);
+    let k = entries::count_entries(entries);
+    records::empty_all(slots, n);
+    records::empty_all(pending, m);
+    entries::empty_entries(entries, k);
+    let set = fixed(config, n, m, k, public_addresses.len() / 3);
+    Ok(begun(set, config.max_clients, clock))
 }

@@ -12,4 +12,4 @@ pub returns : goal.returns
 unfolding splice to_le additional_data
 returns c =
     let a = c.args in
-    ap (λ (t : List ℕ). set t 21 a.prefix) (c.write_u64.ensures ∙ ap (λ (t : List ℕ). splice t 13 (to_le 8 a.protocol_id)) c.copy_bytes.ensures)
+    ap (λ (t : List ℕ). set t 21 a.prefix) (c.write_u64.ensures ∙ ap (λ (t : List ℕ). splice t 13 (to_le 8 a.protocol_id)) c.copy.ensures)

@@ -12,4 +12,4 @@ unfolding splice to_le token_additional_data
 returns c =
     let a = c.args in
     c.write_u64-2.ensures
-    ∙ ap (λ (t : List ℕ). splice t 21 (to_le 8 a.expire_timestamp)) (c.write_u64.ensures ∙ ap (λ (t : List ℕ). splice t 13 (to_le 8 a.protocol_id)) c.copy_bytes.ensures)
+    ∙ ap (λ (t : List ℕ). splice t 21 (to_le 8 a.expire_timestamp)) (c.write_u64.ensures ∙ ap (λ (t : List ℕ). splice t 13 (to_le 8 a.protocol_id)) c.copy.ensures)

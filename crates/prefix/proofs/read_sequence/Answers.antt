@@ -1,7 +1,7 @@
 -- Each way out is one of the answers of the definition.
+use Rattle.std.specs.Prelude.{Ok}
 use mathlib.Core.Path.{sym, ap, ◌∙◌}
 use native.Mathlib.Omega.{arith}
-use Rattle.prefix.specs.declared.Sequence.TheVariants.{Number}
 use Rattle.prefix.proofs.Wire.{reads_number, reads_too_long, reads_short}
 use Rattle.prefix.proofs.read_sequence.Goals as goal
 
@@ -23,4 +23,4 @@ returns-then-source-at c =
 pub returns : goal.returns
 returns c =
     let a = c.args in
-    ap Number c.sequence_of.ensures ∙ sym (reads_number a.source.now a.at a.len c.if-len-gt8.false (omega arith))
+    ap Ok c.sequence_of.ensures ∙ sym (reads_number a.source.now a.at a.len c.if-len-gt8.false (omega arith))

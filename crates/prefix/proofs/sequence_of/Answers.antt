@@ -15,4 +15,4 @@ returns c =
     let a = c.args in
     let vs = part a.source.now a.at a.len in
     let n : length vs ≤ 8 = omega (arith, c.requires, length_part a.source.now a.at a.len c.requires.1) in
-    c.read_u64.ensures ∙ ap (λ (t : List ℕ). of_le (part t 0 8)) c.copy_bytes.ensures ∙ scratch_reads vs n
+    c.read_u64.ensures ∙ ap (λ (t : List ℕ). of_le (part t 0 8)) c.copy.ensures ∙ scratch_reads vs n

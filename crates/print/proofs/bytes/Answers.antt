@@ -1,8 +1,7 @@
--- Lists of different lengths differ.
-use Rattle.serialize.proofs.Lists.{alike_lengths}
+-- `==` on slices is the test of the definition.
+use mathlib.Core.Path.{◌∙◌}
+use Rattle.serialize.proofs.Lists.{pointwise_alike}
 use Rattle.print.proofs.bytes.Goals as goal
 
-pub returns-then-n-want : goal.returns-then-n-want
-returns-then-n-want c =
-    let a = c.args in
-    rw (alike_lengths a.got.now a.want.now c.if-n-want.true) c.verdict.ensures
+pub returns : goal.returns
+returns c = rw (c.eq.ensures ∙ pointwise_alike c.args.got.now c.args.want.now) at c.verdict.ensures

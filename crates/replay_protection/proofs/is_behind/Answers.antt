@@ -7,4 +7,4 @@ use Rattle.replay_protection.proofs.is_behind.Goals as goal
 pub returns : goal.returns
 returns c =
     let a = c.args in
-    behind_by width a.most a.sequence (omega arith) c.below.ensures
+    behind_by width a.most a.sequence (omega arith) c.saturating_sub.ensures

@@ -1,5 +1,6 @@
 -- The two tests are the definition's.
+use Rattle.server.proofs.Verdicts.{answer_tested}
 use Rattle.seals.proofs.seal_refusal.Goals as goal
 
 pub returns : goal.returns
-returns c = simp (c.answer_refusal.ensures, c.both_tables_refusal-tables.ensures)
+returns c = answer_tested _ _ 3 _ _ _ _ _ c.both_tables_refusal-tables.ensures c.answer_refusal.ensures

@@ -1,7 +1,6 @@
--- What the slots' test gave, after the ask's.
-use mathlib.Core.Path.{ap, ◌∙◌}
-use Rattle.server.specs.Ready.{call_refusal}
+-- What the slots' test came to, after the ask's.
+use Rattle.server.proofs.Verdicts.{call_tested}
 use Rattle.sending.proofs.ready_refusal.Goals as goal
 
 pub returns : goal.returns
-returns c = c.call_refusal.ensures ∙ ap (call_refusal c.args.server.ask) c.slots_refusal-tables.ensures
+returns c = call_tested _ _ _ _ c.slots_refusal-tables.ensures c.call_refusal.ensures

@@ -9,4 +9,4 @@ returns-then-take-give c = settle_down c.args.up c.args.give c.args.take c.args.
 pub returns : goal.returns
 returns c =
     let a = c.args in
-    settle_up a.up a.give a.take a.rest (omega arith) c.smaller-fits.result c.if-take-give.false c.smaller-fits.ensures
+    settle_up a.up a.give a.take a.rest (omega arith) c.min-fits.result c.if-take-give.false c.min-fits.ensures

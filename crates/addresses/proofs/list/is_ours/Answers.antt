@@ -1,14 +1,9 @@
 -- The answer is whether the search among ours found one with the address's words.
-use mathlib.Core.Path.{sym, ◌∙◌}
-use Rattle.addresses.proofs.Ways.{address_ours, address_other}
+use mathlib.Core.Path.{ap, ◌∙◌}
+use Rattle.addresses.specs.Addresses.{is_found, is_ours}
+use Rattle.addresses.proofs.Ways.{some_found}
 use Rattle.addresses.proofs.list.is_ours.Goals as goal
 
-pub returns-in-At : goal.returns-in-At
-returns-in-At c =
-    let a = c.args in
-    address_ours a.list.now a.ours.now a.i (sym c.find_words.ensures ∙ c.in-At.is)
-
-pub returns-in-Nothing : goal.returns-in-Nothing
-returns-in-Nothing c =
-    let a = c.args in
-    address_other a.list.now a.ours.now a.i (sym c.find_words.ensures ∙ c.in-Nothing.is)
+pub returns : goal.returns
+unfolding is_ours
+returns c = c.is_some.ensures ∙ some_found c.find_words.result ∙ ap is_found c.find_words.ensures

@@ -9,10 +9,10 @@ pub returns-then-kept-eq0 : goal.returns-then-kept-eq0
 unfolding opening_of pick
 returns-then-kept-eq0 c = simp (eq-eqb c.args.kept.code 0 c.if-kept-eq0.true)
 
-pub returns-in-Known : goal.returns-in-Known
+pub returns-in-Ok : goal.returns-in-Ok
 unfolding opening_of pick
-returns-in-Known c = let s = c.args in simp (ne_eqb s.kept.code 0 c.if-kept-eq0.false, sym c.kept_type.ensures, c.in-Known.is)
+returns-in-Ok c = let s = c.args in simp (ne_eqb s.kept.code 0 c.if-kept-eq0.false, sym c.kept_type.ensures, c.in-Ok.is)
 
-pub returns-in-Invalid : goal.returns-in-Invalid
+pub returns-in-Err : goal.returns-in-Err
 unfolding opening_of pick
-returns-in-Invalid c = let s = c.args in simp (ne_eqb s.kept.code 0 c.if-kept-eq0.false, sym c.kept_type.ensures, c.in-Invalid.is)
+returns-in-Err c = let s = c.args in simp (ne_eqb s.kept.code 0 c.if-kept-eq0.false, sym c.kept_type.ensures, c.in-Err.is)

@@ -11,4 +11,4 @@ returns c =
     let k : length a.key ≡ 32 = search rules in
     let n : length a.nonce ≡ 12 = search rules in
     let x : length a.additional ≡ 22 = search rules in
-    told_laid a _ _ _ k n x c.copy_bytes.ensures c.copy_bytes-2.ensures c.copy_bytes-3.ensures
+    told_laid a _ _ _ k n x c.copy.ensures c.copy-2.ensures c.copy-3.ensures

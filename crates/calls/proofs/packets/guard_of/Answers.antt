@@ -1,7 +1,8 @@
--- The window is the one that was loaded.
-use mathlib.Core.Path.{ap}
-use Rattle.decode.specs.Decodes.{guarding}
+-- The window is the one that was loaded, if there is one.
 use Rattle.calls.proofs.packets.guard_of.Goals as goal
 
-pub returns : goal.returns
-returns c = ap (guarding c.args.given) c.load_window.ensures
+pub returns-then-given : goal.returns-then-given
+returns-then-given c = simp (c.load_window.ensures, c.if-given.true)
+
+pub returns-else-given : goal.returns-else-given
+returns-else-given c = simp c.if-given.false

@@ -6,4 +6,4 @@ pub returns-then-out-n : goal.returns-then-out-n
 returns-then-out-n c = field_kept _ _ c.args.out.now c.field_of-field.ensures c.if-out-n.true
 
 pub returns : goal.returns
-returns c = field_copied _ _ c.args.out.now _ c.field_of-field.ensures c.if-out-n.false c.copy_bytes.ensures
+returns c = field_copied _ _ c.args.out.now _ c.field_of-field.ensures c.if-out-n.false c.copy.ensures

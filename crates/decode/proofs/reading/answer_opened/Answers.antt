@@ -1,31 +1,26 @@
 -- Each way out is a case of the definition.
-use mathlib.Core.Path.{ap, ap₂, ◌∙◌}
+use mathlib.Core.Path.{ap₂, ◌∙◌}
 use native.Mathlib.Omega.{arith}
 use lib.ListN.{length}
 use Rattle.serialize.specs.Choice.{pick}
-use Rattle.asks.specs.declared.Ask.{Ask}
-use Rattle.decode.specs.declared.Decoding.TheVariants as decoding
-use Rattle.decode.specs.declared.Opening.TheVariants as opening
-use Rattle.decode.specs.Decodes.{decoded_as, ended, answer_opened}
+use Rattle.decode.specs.Decodes.{ended, answer_opened}
 use Rattle.asks.proofs.Lent.{told, like_means}
 use Rattle.decode.proofs.reading.answer_opened.Goals as goal
 
 pub returns-then-unlike : goal.returns-then-unlike
 unfolding answer_opened pick
-returns-then-unlike c =
-    let s = c.args in
-    ap (λ (a : Ask). decoded_as (decoding.Refused 18) a (opening.Open s.kind s.sequence s.start s.len) s.guard) c.no_ask.ensures ∙ simp (told c.unlike.ensures c.if-unlike.true)
+returns-then-unlike c = simp (c.no_ask.ensures, told c.unlike.ensures c.if-unlike.true)
 
 pub overflow_sub-len : goal.overflow_sub-len
 overflow_sub-len c =
     let s = c.args in
-    let l = like_means s.start 16 s.len (length s.datagram.now) (told c.unlike.ensures c.if-unlike.false) in
+    let l = like_means s.opening.start 16 s.opening.len (length s.datagram.now) (told c.unlike.ensures c.if-unlike.false) in
     omega arith
 
 pub read_opened-requires : goal.read_opened-requires
 read_opened-requires c =
     let s = c.args in
-    let l = like_means s.start 16 s.len (length s.datagram.now) (told c.unlike.ensures c.if-unlike.false) in
+    let l = like_means s.opening.start 16 s.opening.len (length s.datagram.now) (told c.unlike.ensures c.if-unlike.false) in
     (omega arith, omega arith)
 
 pub returns-then-granted : goal.returns-then-granted

@@ -5,16 +5,16 @@ use Rattle.decode.proofs.Ways.{typed_long}
 use Rattle.decode.proofs.reading.decode.Goals as goal
 
 pub decode_of-requires : goal.decode_of-requires
-decode_of-requires c = typed_long _ _ (sym c.read_type.ensures ∙ c.in-Of.is)
+decode_of-requires c = typed_long _ _ (sym c.read_type.ensures ∙ c.in-Ok.is)
 
-pub returns-in-Refused : goal.returns-in-Refused
+pub returns-in-Err : goal.returns-in-Err
 unfolding decode
-returns-in-Refused c =
+returns-in-Err c =
     let s = c.args in
-    c.ended.ensures ∙ ap (by_kind s.datagram.now s.protocol_id s.private_key s.guard) (sym c.in-Refused.is ∙ c.read_type.ensures)
+    c.ended.ensures ∙ ap (by_kind s.datagram.now s.protocol_id s.private_key s.guard) (sym c.in-Err.is ∙ c.read_type.ensures)
 
-pub returns-in-Of : goal.returns-in-Of
+pub returns-in-Ok : goal.returns-in-Ok
 unfolding decode
-returns-in-Of c =
+returns-in-Ok c =
     let s = c.args in
-    c.decode_of.ensures ∙ ap (by_kind s.datagram.now s.protocol_id s.private_key s.guard) (sym c.in-Of.is ∙ c.read_type.ensures)
+    c.decode_of.ensures ∙ ap (by_kind s.datagram.now s.protocol_id s.private_key s.guard) (sym c.in-Ok.is ∙ c.read_type.ensures)

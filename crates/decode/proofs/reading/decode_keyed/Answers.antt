@@ -3,12 +3,12 @@ use mathlib.Core.Path.{sym, ap, ◌∙◌}
 use Rattle.decode.specs.Decodes.{by_start}
 use Rattle.decode.proofs.reading.decode_keyed.Goals as goal
 
-pub returns-in-Refused : goal.returns-in-Refused
-returns-in-Refused c =
+pub returns-in-Err : goal.returns-in-Err
+returns-in-Err c =
     let s = c.args in
-    c.ended.ensures ∙ ap (by_start s.datagram.now s.kind s.protocol_id s.key s.guard) (sym c.in-Refused.is ∙ c.read_start.ensures)
+    c.ended.ensures ∙ ap (by_start s.datagram.now s.kind s.protocol_id s.key s.guard) (sym c.in-Err.is ∙ c.read_start.ensures)
 
-pub returns-in-At : goal.returns-in-At
-returns-in-At c =
+pub returns-in-Ok : goal.returns-in-Ok
+returns-in-Ok c =
     let s = c.args in
-    c.decode_at.ensures ∙ ap (by_start s.datagram.now s.kind s.protocol_id s.key s.guard) (sym c.in-At.is ∙ c.read_start.ensures)
+    c.decode_at.ensures ∙ ap (by_start s.datagram.now s.kind s.protocol_id s.key s.guard) (sym c.in-Ok.is ∙ c.read_start.ensures)

@@ -1,13 +1,12 @@
--- The one test of the definition.
+-- A key is given, or none is.
 use mathlib.Core.Path.{◌∙◌}
-use Rattle.serialize.specs.Choice.{pick}
 use Rattle.decode.specs.Decodes.{decode_sealed}
 use Rattle.decode.proofs.reading.decode_sealed.Goals as goal
 
-pub returns-then-private_key : goal.returns-then-private_key
-unfolding decode_sealed pick
-returns-then-private_key c = c.decode_keyed.ensures ∙ simp c.if-private_key.true
+pub returns-in-Some : goal.returns-in-Some
+unfolding decode_sealed
+returns-in-Some c = c.decode_keyed.ensures ∙ simp c.in-Some.is
 
-pub returns : goal.returns
-unfolding decode_sealed pick
-returns c = c.ended.ensures ∙ simp c.if-private_key.false
+pub returns-in-None : goal.returns-in-None
+unfolding decode_sealed
+returns-in-None c = c.ended.ensures ∙ simp c.in-None.is

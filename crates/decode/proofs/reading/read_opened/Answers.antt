@@ -7,14 +7,14 @@ use Rattle.decode.proofs.reading.read_opened.Goals as goal
 pub read-requires : goal.read-requires
 read-requires c = omega (arith, c.requires)
 
-pub returns-in-Whole : goal.returns-in-Whole
+pub returns-in-Ok : goal.returns-in-Ok
 unfolding read_opened
-returns-in-Whole c =
+returns-in-Ok c =
     let s = c.args in
-    ap (by_body s.sequence s.start s.end) (sym c.in-Whole.is ∙ c.read.ensures)
+    ap (by_body s.sequence s.start s.end) (sym c.in-Ok.is ∙ c.read.ensures)
 
-pub returns-in-Short : goal.returns-in-Short
+pub returns-in-Err : goal.returns-in-Err
 unfolding read_opened
-returns-in-Short c =
+returns-in-Err c =
     let s = c.args in
-    ap (by_body s.sequence s.start s.end) (sym c.in-Short.is ∙ c.read.ensures)
+    ap (by_body s.sequence s.start s.end) (sym c.in-Err.is ∙ c.read.ensures)

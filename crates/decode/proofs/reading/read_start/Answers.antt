@@ -1,13 +1,9 @@
 -- The one test of the definition.
-use mathlib.Core.Path.{ap, ap₂, ◌∙◌}
-use Prim.Native.Nat.{ℕ, ◌+◌}
+use mathlib.Core.Path.{ap}
 use native.Mathlib.Omega.{arith}
 use borrow.Author.Tests.{lt-ltb, le-ltb}
 use Rattle.serialize.specs.Choice.{pick}
-use Rattle.serialize.specs.Runs.{part}
-use Rattle.serialize.specs.Le.{of_le}
 use Rattle.prefix.specs.declared.Prefix.{Prefix}
-use Rattle.decode.specs.declared.Start.TheVariants as starting
 use Rattle.decode.specs.Decodes.{count_of, start_at}
 use Rattle.decode.proofs.reading.read_start.Goals as goal
 
@@ -28,4 +24,4 @@ unfolding start_at pick
 returns c =
     let d = c.args.datagram.now in
     let e = ap (λ (p : Prefix). p.count) c.decode_prefix-count.ensures in
-    ap₂ starting.At (c.sequence_of.ensures ∙ ap (λ (n : ℕ). of_le (part d 1 n)) e) (ap (λ (n : ℕ). 1 + n) e) ∙ simp (le-ltb 8 (count_of d) (omega (arith, c.if-count-gt8.false)))
+    simp (c.sequence_of.ensures, e, le-ltb 8 (count_of d) (omega (arith, e, c.if-count-gt8.false)))

@@ -1,12 +1,9 @@
 -- Each way out is a case of the definition.
-use mathlib.Core.Path.{ap₂, ◌∙◌}
+use mathlib.Core.Path.{◌∙◌}
 use native.Mathlib.Omega.{arith}
 use lib.ListN.{length}
 use Rattle.serialize.specs.Choice.{pick}
-use Rattle.asks.specs.declared.Ask.{Ask}
-use Rattle.decode.specs.declared.Proving.TheVariants as proving
-use Rattle.decode.specs.declared.ProofOpening.TheVariants as proof
-use Rattle.decode.specs.Challenges.{challenged_as, answer_proof}
+use Rattle.decode.specs.Challenges.{answer_proof}
 use Rattle.asks.proofs.Lent.{told, like_means}
 use Rattle.decode.proofs.token.answer_proof.Goals as goal
 
@@ -17,12 +14,12 @@ returns-then-unlike c = c.unproved.ensures ∙ simp (told c.unlike.ensures c.if-
 pub read-requires : goal.read-requires
 read-requires c =
     let s = c.args in
-    let l = like_means s.at 300 s.len (length s.token_data.now) (told c.unlike.ensures c.if-unlike.false) in
+    let l = like_means s.opening.at 300 s.opening.len (length s.token_data.now) (told c.unlike.ensures c.if-unlike.false) in
     omega arith
 
 pub returns-then-granted : goal.returns-then-granted
 unfolding answer_proof pick
-returns-then-granted c = ap₂ (λ (a : Ask). challenged_as proving.Proved a proof.Closed) c.no_ask.ensures c.read.ensures ∙ simp (told c.unlike.ensures c.if-unlike.false, c.if-granted.true)
+returns-then-granted c = simp (c.no_ask.ensures, c.read.ensures, told c.unlike.ensures c.if-unlike.false, c.if-granted.true)
 
 pub returns : goal.returns
 unfolding answer_proof pick

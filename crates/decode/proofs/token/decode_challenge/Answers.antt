@@ -1,13 +1,10 @@
 -- Each way out is a case of the definition.
-use mathlib.Core.Path.{ap₂, ◌∙◌}
+use mathlib.Core.Path.{◌∙◌}
 use Prim.Native.Nat.{◌+◌, ◌≤◌}
 use borrow.Author.Tests.{ltb-false}
 use lib.ListN.{length}
 use Rattle.serialize.specs.Choice.{pick}
-use Rattle.asks.specs.declared.Ask.{Ask}
-use Rattle.decode.specs.declared.Proving.TheVariants as proving
-use Rattle.decode.specs.declared.ProofOpening.TheVariants as proof
-use Rattle.decode.specs.Challenges.{challenged_as, decode_challenge}
+use Rattle.decode.specs.Challenges.{decode_challenge}
 use Rattle.asks.proofs.Lent.{told}
 use borrow.Author.Rules.{rules}
 use Rattle.decode.proofs.token.decode_challenge.Goals as goal
@@ -24,6 +21,4 @@ overflow_add-at c =
 
 pub returns : goal.returns
 unfolding decode_challenge pick
-returns c =
-    let s = c.args in
-    ap₂ (λ (a : Ask). challenged_as proving.Asked a (proof.Open s.at (length s.token_data.now))) c.token_ask.ensures c.no_token.ensures ∙ simp (told c.past.ensures c.if-past.false)
+returns c = simp (c.token_ask.ensures, c.no_token.ensures, told c.past.ensures c.if-past.false)

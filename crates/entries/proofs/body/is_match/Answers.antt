@@ -11,4 +11,4 @@ returns-then-same_bytes c =
 pub returns-else-same_bytes : goal.returns-else-same_bytes
 returns-else-same_bytes c =
     let a = c.args in
-    other_bytes a.entries.now a.k a.mac.now a.i (sym c.same_bytes.ensures ∙ c.if-same_bytes.false)
+    c.if-same_bytes.false ∙ other_bytes a.entries.now a.k a.mac.now a.i (sym c.same_bytes.ensures ∙ c.if-same_bytes.false)

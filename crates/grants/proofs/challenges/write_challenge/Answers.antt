@@ -1,8 +1,9 @@
 -- Head, token sequence and token are one run from the start of the output.
-use mathlib.Core.Path.{◌≡◌, ◌∙◌}
-use Prim.Native.Nat.{◌^◌, ◌<◌}
+use mathlib.Core.Path.{◌≡◌, ap, ◌∙◌}
+use Prim.Native.Nat.{ℕ, ◌^◌, ◌<◌}
 use native.Mathlib.Omega.{arith}
 use lib.ListN.{length, length-set}
+use Rattle.prefix.specs.Head.{fewest, prefix_byte}
 use Rattle.prefix.proofs.Fewest.{fewest_le}
 use Rattle.grants.proofs.Sending.{challenge_written}
 use borrow.Author.Rules.{rules}
@@ -36,5 +37,5 @@ returns c =
     let b : a.global_sequence < 256 ^ 8 = search rules in
     let l : length a.user_data ≡ 256 = search rules in
     challenge_written a.out.now a.global_sequence a.challenge_sequence a.challenge_key a.client_id a.user_data c.requires b l
-    _ _ c.encode_prefix.ensures c.write_sequence-count.ensures.0 _ _ c.write_sequence-count.ensures.1 c.write_u64.ensures
+    _ _ (c.encode_prefix.ensures ∙ ap (λ (k : ℕ). prefix_byte k (fewest a.global_sequence)) c.to_u8.ensures) c.write_sequence-count.ensures.0 _ _ c.write_sequence-count.ensures.1 c.write_u64.ensures
     _ _ c.generate_challenge-encoded.ensures _ c.packet_ask.ensures

@@ -1,9 +1,6 @@
--- The words passed are below their count, and the number stays below the prime.
-use Rattle.std.proofs.Common.{◌-◌, ◌<◌, ◌≤◌}
+-- The number stays below the prime.
+use Rattle.std.proofs.Common.{◌<◌}
 use Rattle.lives.proofs.digest.words.Given as goal
 
-abbrev pub invariant-loop-i : goal.invariant-loop-i
-invariant-loop-i l = (l.i ≤ l.n) × (l.h < 4294967291)
-
-abbrev pub decreases-loop-i : goal.decreases-loop-i
-decreases-loop-i l = l.n - l.i
+abbrev pub invariant-loop-w : goal.invariant-loop-w
+invariant-loop-w l = l.h < 4294967291

@@ -4,4 +4,4 @@ use Rattle.netcode.proofs.record.lay.Goals as goal
 
 pub returns : goal.returns
 unfolding record_words
-returns c = simp (c.copy_words-2.ensures, c.copy_words.ensures, c.stage_words-stage.ensures)
+returns c = simp (c.copy-2.ensures, c.copy.ensures, c.stage_words-stage.ensures)

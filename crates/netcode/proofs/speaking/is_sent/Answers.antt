@@ -5,10 +5,11 @@ use Prim.Native.Nat.{◌+◌, ◌<◌}
 use native.Mathlib.Omega.{arith}
 use lib.ListN.{get_or}
 use borrow.Author.Tests.{leb-true}
+use Rattle.refusal.proofs.Laws.{is_err_none}
 use Rattle.netcode.proofs.speaking.is_sent.Goals as goal
 
-pub returns-then-tables_refusal-ne0 : goal.returns-then-tables_refusal-ne0
-returns-then-tables_refusal-ne0 c = λ e. absurd (true≢false (sym e))
+pub returns-then-is_err : goal.returns-then-is_err
+returns-then-is_err c = λ e. absurd (true≢false (sym e))
 
 pub returns-then-out-words : goal.returns-then-out-words
 returns-then-out-words c = λ e. absurd (true≢false (sym e))
@@ -25,7 +26,7 @@ returns-then-is_sending_step c =
     let m : get_or c.args.words.now 25 0 + 1 < 18446744073709551616 = omega (arith, l) in
     λ e. record {
       seals = c.is_sending_step.ensures c.if-is_sending_step.true;
-      fits = sym c.tables_refusal.ensures ∙ c.if-tables_refusal-ne0.false;
+      fits = is_err_none _ c.tables_refusal.result c.tables_refusal.ensures (sym c.is_err.ensures.value ∙ c.if-is_err.false);
       same = c.if-out-words.false;
       place = c.if-words.false;
       more = m;

@@ -4,4 +4,4 @@ use Rattle.netcode.proofs.steps.put_step.Goals as goal
 
 pub returns : goal.returns
 unfolding step_words
-returns c = simp (c.copy_words-2.ensures, c.copy_words.ensures)
+returns c = simp (c.copy-2.ensures, c.copy.ensures)

@@ -4,4 +4,4 @@ use Rattle.netcode.proofs.told.lay_answer.Goals as goal
 
 pub returns : goal.returns
 unfolding answer_words
-returns c = simp (c.copy_words-2.ensures, c.copy_words.ensures, c.work_number.ensures, c.words-first.ensures)
+returns c = simp (c.copy-2.ensures, c.copy.ensures, c.work_number.ensures, c.words-first.ensures)

@@ -11,4 +11,4 @@ returns-then-has_words c =
 pub returns-else-has_words : goal.returns-else-has_words
 returns-else-has_words c =
     let a = c.args in
-    address_other a.t.now a.n a.i a.first a.low a.high (sym c.has_words.ensures ∙ c.if-has_words.false)
+    c.if-has_words.false ∙ address_other a.t.now a.n a.i a.first a.low a.high (sym c.has_words.ensures ∙ c.if-has_words.false)

@@ -2,7 +2,7 @@
 use mathlib.Core.Path.{◌∙◌}
 use native.Mathlib.Omega.{arith}
 use lib.ListN.{length-set}
-use Rattle.records.proofs.Pieces.{keys_written}
+use Rattle.records.proofs.Pieces.{bit_from, keys_written}
 use borrow.Author.Rules.{rules}
 use Rattle.records.proofs.whole.put_keys.Goals as goal
 
@@ -26,7 +26,7 @@ returns c =
     a.confirmed
     a.send_key
     a.receive_key
-    c.bit_of.ensures
+    (c.from.ensures ∙ bit_from a.confirmed)
     c.pack_words.ensures
     c.pack_words-2.ensures
     c.requires

@@ -17,4 +17,4 @@ returns c =
     let t = c.args.t.now in
     let at = c.args.at in
     let k : length (part t (at + 1) width) ≡ width = length_part t (at + 1) width (omega (arith, c.requires)) in
-    ap (λ (r : List ℕ). protection (window (get_or t at 0) r)) (c.copy_words.ensures ∙ splice_whole _ _ k)
+    ap (λ (r : List ℕ). protection (window (get_or t at 0) r)) (c.copy.ensures ∙ splice_whole _ _ k)

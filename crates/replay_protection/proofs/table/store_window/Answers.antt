@@ -10,13 +10,13 @@ use Rattle.replay_protection.specs.Ours.{width, window_of}
 use borrow.Author.Rules.{rules}
 use Rattle.replay_protection.proofs.table.store_window.Goals as goal
 
-pub copy_words-requires : goal.copy_words-requires
-copy_words-requires c =
+pub copy-requires : goal.copy-requires
+copy-requires c =
     let k : length c.args.window.received_packet ≡ width = search rules in
     (simp length-set (omega arith), omega arith)
 
 pub shape_of-t : goal.shape_of-t
-shape_of-t c = c.copy_words.auto.dst ∙ simp length-set
+shape_of-t c = c.copy.auto.dst ∙ simp length-set
 
 pub returns : goal.returns
 unfolding put_window
@@ -25,6 +25,6 @@ returns c =
     let at = c.args.at in
     let win = window_of c.args.window in
     let k : length win.ring ≡ width = search rules in
-    c.copy_words.ensures
+    c.copy.ensures
     ∙ ap (splice (set t at win.most) (at + 1)) (part_whole win.ring width k)
     ∙ splice_cons t at win.most win.ring (omega (arith, c.requires))

@@ -12,4 +12,5 @@ returns c =
       c.held_send_key.ensures,
       c.sequence_bytes_required-start.ensures,
       c.encode_prefix-prefix_byte.ensures,
+      c.to_u8.ensures,
     )

@@ -1,7 +1,20 @@
--- Not sent away: the second of the two.
+-- The step is a slot's update.
+use mathlib.Core.Path.{refl}
+use mathlib.Core.Bool.{false}
+use Prim.Native.Nat.{ℕ}
+use mathlib.Core.List.{List}
 use Rattle.serialize.specs.Choice.{pick}
+use Rattle.sending.specs.Clients.{slot_updated}
+use Rattle.sending.proofs.Ways.{slot_turn, step_told, attend_decides}
 use Rattle.sending.proofs.clients.update_client.Goals as goal
 
 pub returns : goal.returns
 unfolding pick
-returns c = c.attend.ensures
+returns c =
+    let a = c.args in
+    let e = c.attend.ensures in
+    attend_decides a.server a.slots.now a.client_id a.out.now _ false e.unready e.missed
+    (λ z i f.
+    let d = e.found z i f in
+    slot_turn a.server a.client_id a.slots.now i false a.out.now _ refl
+    (step_told _ (λ (x y : List ℕ). slot_updated a.server a.client_id x i y) _ _ _ _ _ _ _ _ d.slots_before d.out_before d.slots_after d.out_after d.met.1))

@@ -1,12 +1,9 @@
--- Two bytes, least first, are the halves of the number that they are.
-use Prim.Native.Nat.{◌+◌}
-use native.Mathlib.Omega.{arith}
-use Rattle.serialize.proofs.Le.{of_le_halves, of_le_byte}
+-- The bytes from the place on are the number, least first.
+use Rattle.serialize.proofs.Le.{bytes_read}
 use Rattle.serialize.proofs.number.read_u16.Goals as goal
 
 pub returns : goal.returns
 returns c =
-    let l = c.args.src.now in
-    let at = c.args.at in
-    let h = c.requires in
-    omega (arith, of_le_halves l at 1 1 h, of_le_byte l at (omega (arith, h)), of_le_byte l (at + 1) (omega (arith, h)))
+    let a = c.args in
+    let chunk = rw c.unwrap.ensures at c.first_chunk.ensures.cases in
+    bytes_read a.src.now a.at 1 c.unwrap.result.now c.from_le_bytes.result c.requires chunk.same c.from_le_bytes.ensures

@@ -1,7 +1,9 @@
--- A u32 is two u16, the low one first.
-use native.Mathlib.Omega.{arith}
-use Rattle.serialize.proofs.Le.{of_le_halves}
+-- The bytes from the place on are the number, least first.
+use Rattle.serialize.proofs.Le.{bytes_read}
 use Rattle.serialize.proofs.number.read_u32.Goals as goal
 
 pub returns : goal.returns
-returns c = omega (arith, of_le_halves c.args.src.now c.args.at 2 2 c.requires)
+returns c =
+    let a = c.args in
+    let chunk = rw c.unwrap.ensures at c.first_chunk.ensures.cases in
+    bytes_read a.src.now a.at 3 c.unwrap.result.now c.from_le_bytes.result c.requires chunk.same c.from_le_bytes.ensures

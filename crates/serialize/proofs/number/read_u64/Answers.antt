@@ -1,7 +1,9 @@
--- A u64 is two u32, the low one first.
-use native.Mathlib.Omega.{arith}
-use Rattle.serialize.proofs.Le.{of_le_halves}
+-- The bytes from the place on are the number, least first.
+use Rattle.serialize.proofs.Le.{bytes_read}
 use Rattle.serialize.proofs.number.read_u64.Goals as goal
 
 pub returns : goal.returns
-returns c = omega (arith, of_le_halves c.args.src.now c.args.at 4 4 c.requires)
+returns c =
+    let a = c.args in
+    let chunk = rw c.unwrap.ensures at c.first_chunk.ensures.cases in
+    bytes_read a.src.now a.at 7 c.unwrap.result.now c.from_le_bytes.result c.requires chunk.same c.from_le_bytes.ensures

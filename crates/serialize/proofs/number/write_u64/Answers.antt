@@ -1,6 +1,6 @@
--- A u64 is two u32, the low one first.
-use Rattle.serialize.proofs.Le.{to_le_halves}
+-- The bytes of the number come back in the part that was lent.
+use Rattle.serialize.proofs.Le.{bytes_written}
 use Rattle.serialize.proofs.number.write_u64.Goals as goal
 
 pub returns : goal.returns
-returns c = to_le_halves c.args.dst.now _ _ c.args.at 4 4 c.args.v c.write_u32.ensures c.write_u32-2.ensures c.requires
+returns c = bytes_written c.args.dst.now c.args.at 8 c.args.v c.copy_from_slice.new.self c.to_le_bytes.result c.copy_from_slice.ensures.after c.to_le_bytes.ensures

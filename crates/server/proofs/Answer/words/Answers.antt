@@ -4,7 +4,7 @@ use Rattle.server.proofs.Answer.words.Goals as goal
 
 pub returns-in-Refused : goal.returns-in-Refused
 unfolding words_of
-returns-in-Refused c = simp (c.in-Refused.is, c.lay.ensures, c.nobody.ensures)
+returns-in-Refused c = simp (c.in-Refused.is, c.lay.ensures, c.nobody.ensures, c.number.ensures)
 
 pub returns-in-Nothing : goal.returns-in-Nothing
 unfolding words_of
@@ -28,4 +28,4 @@ returns-in-ClientConnected c = simp (c.in-ClientConnected.is, c.lay-in-ClientCon
 
 pub returns-in-ClientDisconnected : goal.returns-in-ClientDisconnected
 unfolding words_of
-returns-in-ClientDisconnected c = simp (c.in-ClientDisconnected.is, c.lay-in-ClientDisconnected.ensures)
+returns-in-ClientDisconnected c = simp (c.in-ClientDisconnected.is, c.lay-in-ClientDisconnected.ensures, c.told.ensures)

@@ -6,11 +6,11 @@ use Rattle.server.proofs.Pieces.{ask_laid}
 use borrow.Author.Rules.{rules}
 use Rattle.server.proofs.asking.packet_ask.Goals as goal
 
-pub copy_bytes-requires : goal.copy_bytes-requires
-copy_bytes-requires c = let k : length c.args.ask.nonce ≡ 12 = search rules in (omega arith, omega arith)
+pub copy-requires : goal.copy-requires
+copy-requires c = let k : length c.args.ask.nonce ≡ 12 = search rules in (omega arith, omega arith)
 
-pub copy_bytes-requires-2 : goal.copy_bytes-requires-2
-copy_bytes-requires-2 c = let k : length c.args.ask.additional ≡ 22 = search rules in (omega arith, omega arith)
+pub copy-requires-2 : goal.copy-requires-2
+copy-requires-2 c = let k : length c.args.ask.additional ≡ 22 = search rules in (omega arith, omega arith)
 
 pub returns : goal.returns
-returns c = let a = c.args.ask in let n : length a.nonce ≡ 12 = search rules in let d : length a.additional ≡ 22 = search rules in ask_laid a _ _ _ c.buffer_of.ensures c.copy_bytes.ensures c.copy_bytes-2.ensures (omega arith) (omega arith)
+returns c = let a = c.args.ask in let n : length a.nonce ≡ 12 = search rules in let d : length a.additional ≡ 22 = search rules in ask_laid a _ _ _ c.buffer_of.ensures c.copy.ensures c.copy-2.ensures (omega arith) (omega arith)

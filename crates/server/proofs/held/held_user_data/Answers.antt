@@ -4,4 +4,4 @@ use borrow.Author.Rules.{rules}
 use Rattle.server.proofs.held.held_user_data.Goals as goal
 
 pub returns : goal.returns
-returns c = copied _ c.args.held.now 84 256 c.copy_bytes.ensures (search rules) (search rules)
+returns c = copied _ c.args.held.now 84 256 c.copy.ensures (search rules) (search rules)

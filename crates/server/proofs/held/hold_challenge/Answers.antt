@@ -8,4 +8,4 @@ use Rattle.server.proofs.held.hold_challenge.Goals as goal
 
 pub returns : goal.returns
 unfolding held_challenge
-returns c = c.copy_bytes.ensures ∙ ap (λ (t : List ℕ). splice t 84 (part c.args.user_data.now 0 256)) c.write_u64.ensures
+returns c = c.copy.ensures ∙ ap (λ (t : List ℕ). splice t 84 (part c.args.user_data.now 0 256)) c.write_u64.ensures

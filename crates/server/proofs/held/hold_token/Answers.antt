@@ -7,11 +7,11 @@ pub returns : goal.returns
 returns c =
     let a = c.args in
     held_written a.client_id a.expire_timestamp a.timeout_seconds a.send_key.now a.receive_key.now a.user_data.now (search rules) (search rules) (search rules)
-    a.held.now c.write_u64.new.dst c.write_u64-2.new.dst c.write_u32.new.dst c.copy_bytes.new.dst c.copy_bytes-2.new.dst c.copy_bytes-3.new.dst
+    a.held.now c.write_u64.new.dst c.write_u64-2.new.dst c.write_u32.new.dst c.copy.new.dst c.copy-2.new.dst c.copy-3.new.dst
     (search rules)
     c.write_u64.ensures
     c.write_u64-2.ensures
     c.write_u32.ensures
-    c.copy_bytes.ensures
-    c.copy_bytes-2.ensures
-    c.copy_bytes-3.ensures
+    c.copy.ensures
+    c.copy-2.ensures
+    c.copy-3.ensures

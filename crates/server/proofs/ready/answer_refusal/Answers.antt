@@ -1,21 +1,26 @@
 -- Each way out is a case of the definition, by the tests that led there.
-use borrow.Author.Tests.{eq-eqb, ne_eqb}
+use Rattle.std.proofs.Common.{rules, ◌≡◌, Err}
 use Rattle.serialize.specs.Choice.{pick}
-use Rattle.server.specs.Ready.{answer_refusal}
+use Rattle.server.specs.Ready.{answer_verdict}
+use Rattle.server.proofs.Verdicts.{idle_wants}
 use Rattle.server.proofs.ready.answer_refusal.Goals as goal
 
-pub returns-then-kind_of-eq-IDLE : goal.returns-then-kind_of-eq-IDLE
-unfolding answer_refusal pick
-returns-then-kind_of-eq-IDLE c = simp (← c.kind_of.ensures, eq-eqb _ _ c.if-kind_of-eq-IDLE.true)
+pub returns-then-is_none : goal.returns-then-is_none
+unfolding answer_verdict pick
+returns-then-is_none c = simp (idle_wants c.args.ask.stage, ← c.wanted.ensures, c.if-is_none.ensures)
 
-pub returns-then-tables-ne0 : goal.returns-then-tables-ne0
-unfolding answer_refusal pick
-returns-then-tables-ne0 c = simp (← c.kind_of.ensures, ne_eqb _ _ c.if-kind_of-eq-IDLE.false, ne_eqb _ _ c.if-tables-ne0.true)
+pub returns-in_err-tables : goal.returns-in_err-tables
+unfolding answer_verdict pick
+returns-in_err-tables c =
+    let e : c.from_residual.result ≡ Err c.in_err-tables.field-0.0 = search rules in
+    simp (idle_wants c.args.ask.stage, ← c.wanted.ensures, c.if-is_none.ensures, c.in_err-tables.was, e)
 
 pub returns-then-is_unfit : goal.returns-then-is_unfit
-unfolding answer_refusal pick
-returns-then-is_unfit c = simp (← c.kind_of.ensures, ne_eqb _ _ c.if-kind_of-eq-IDLE.false, eq-eqb _ _ c.if-tables-ne0.false, ← c.is_unfit.ensures, c.if-is_unfit.true)
+unfolding answer_verdict pick
+returns-then-is_unfit c =
+    simp (idle_wants c.args.ask.stage, ← c.wanted.ensures, c.if-is_none.ensures, c.in_ok-tables.was, ← c.is_unfit.ensures, c.if-is_unfit.true)
 
 pub returns : goal.returns
-unfolding answer_refusal pick
-returns c = simp (← c.kind_of.ensures, ne_eqb _ _ c.if-kind_of-eq-IDLE.false, eq-eqb _ _ c.if-tables-ne0.false, ← c.is_unfit.ensures, c.if-is_unfit.false)
+unfolding answer_verdict pick
+returns c =
+    simp (idle_wants c.args.ask.stage, ← c.wanted.ensures, c.if-is_none.ensures, c.in_ok-tables.was, ← c.is_unfit.ensures, c.if-is_unfit.false)

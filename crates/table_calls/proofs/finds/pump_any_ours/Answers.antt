@@ -1,5 +1,5 @@
 -- Both lists' tests, and then whether one address is in both.
-use mathlib.Core.Path.{sym, ◌∙◌}
+use mathlib.Core.Path.{ap, ◌∙◌}
 use mathlib.Core.Bool.{not}
 use mathlib.Core.List.{List}
 use Prim.Native.Nat.{ℕ}
@@ -7,46 +7,34 @@ use lib.Dec.{eqb}
 use Rattle.serialize.specs.Choice.{pick}
 use Rattle.addresses.specs.Addresses.{list_refusal, any_ours}
 use Rattle.table_calls.specs.Calls.{bit_of, ours_call}
-use Rattle.table_calls.proofs.Laid.{stops, passes, bit_true, bit_false}
+use Rattle.table_calls.proofs.Laid.{bit_from, list_refused, list_taken}
 use Rattle.table_calls.proofs.finds.pump_any_ours.Goals as goal
 
 -- what follows the test of ours
 abbrev after : List ℕ → List ℕ → ℕ
 after list ours = pick (not (eqb (list_refusal list) 0)) 19 (bit_of (any_ours list ours))
 
-pub returns-then-list_refusal-ne0 : goal.returns-then-list_refusal-ne0
+pub returns-in-Err : goal.returns-in-Err
 unfolding ours_call
-returns-then-list_refusal-ne0 c =
-    let a = c.args in
+returns-in-Err c =
     let ours = c.args.ours.now in
-    let list = c.args.list.now in
-    stops (list_refusal ours) 19 (after list ours) (λ e. c.if-list_refusal-ne0.true (c.list_refusal.ensures ∙ e))
+    list_refused ours _ c.list_refusal.ensures (after c.args.list.now ours) c.in-Err.refusal _ c.in-Err.is c.number.ensures
 
-pub returns-then-list_refusal-ne0-2 : goal.returns-then-list_refusal-ne0-2
+pub returns-in-Err-list_refusal : goal.returns-in-Err-list_refusal
 unfolding ours_call
-returns-then-list_refusal-ne0-2 c =
-    let a = c.args in
+returns-in-Err-list_refusal c =
     let ours = c.args.ours.now in
     let list = c.args.list.now in
-    stops (list_refusal list) 19 (bit_of (any_ours list ours)) (λ e. c.if-list_refusal-ne0-2.true (c.list_refusal-2.ensures ∙ e))
-    ∙ passes (list_refusal ours) 19 (after list ours) (sym c.list_refusal.ensures ∙ c.if-list_refusal-ne0.false)
+    list_refused list _ c.list_refusal-2.ensures (bit_of (any_ours list ours)) c.in-Err-list_refusal.refusal _ c.in-Err-list_refusal.is c.number-in-Err-list_refusal.ensures
+    ∙ list_taken ours _ c.list_refusal.ensures (after list ours) c.in_default.field-0 c.in_default.is
 
-pub returns-then-any_ours : goal.returns-then-any_ours
+pub returns : goal.returns
 unfolding ours_call
-returns-then-any_ours c =
-    let a = c.args in
+returns c =
     let ours = c.args.ours.now in
     let list = c.args.list.now in
-    bit_true (sym c.any_ours.ensures ∙ c.if-any_ours.true)
-    ∙ passes (list_refusal list) 19 (bit_of (any_ours list ours)) (sym c.list_refusal-2.ensures ∙ c.if-list_refusal-ne0-2.false)
-    ∙ passes (list_refusal ours) 19 (after list ours) (sym c.list_refusal.ensures ∙ c.if-list_refusal-ne0.false)
-
-pub returns-else-any_ours : goal.returns-else-any_ours
-unfolding ours_call
-returns-else-any_ours c =
-    let a = c.args in
-    let ours = c.args.ours.now in
-    let list = c.args.list.now in
-    bit_false (sym c.any_ours.ensures ∙ c.if-any_ours.false)
-    ∙ passes (list_refusal list) 19 (bit_of (any_ours list ours)) (sym c.list_refusal-2.ensures ∙ c.if-list_refusal-ne0-2.false)
-    ∙ passes (list_refusal ours) 19 (after list ours) (sym c.list_refusal.ensures ∙ c.if-list_refusal-ne0.false)
+    c.from.ensures
+    ∙ bit_from c.any_ours.result
+    ∙ ap bit_of c.any_ours.ensures
+    ∙ list_taken list _ c.list_refusal-2.ensures (bit_of (any_ours list ours)) c.in_default-list_refusal.field-0 c.in_default-list_refusal.is
+    ∙ list_taken ours _ c.list_refusal.ensures (after list ours) c.in_default.field-0 c.in_default.is

@@ -1,17 +1,19 @@
 -- Each arm is a case of the definition.
+use Rattle.std.specs.Prelude.{ℕ, Result}
 use mathlib.Core.Path.{sym, ap, ◌∙◌}
-use Rattle.times.specs.declared.Added.{Added}
-use Rattle.table_calls.specs.Calls.{clock_laid}
+use Rattle.times.specs.declared.Time.{Time}
+use Rattle.table_calls.specs.Calls.{told, clock_laid}
 use Rattle.table_calls.proofs.moments.pump_time_add.Goals as goal
 
-pub returns-in-Clock : goal.returns-in-Clock
+pub returns-in-Ok : goal.returns-in-Ok
 unfolding clock_laid
-returns-in-Clock c =
+returns-in-Ok c =
     let a = c.args in
-    sym (ap (λ (x : Added). clock_laid x a.out.now) (sym c.add.ensures ∙ c.in-Clock.is))
+    sym (ap (λ (x : Result Time ℕ). clock_laid x a.out.now) (sym c.add.ensures ∙ c.in-Ok.is))
 
-pub returns-in-OutOfRange : goal.returns-in-OutOfRange
+pub returns-in-Err : goal.returns-in-Err
 unfolding clock_laid
-returns-in-OutOfRange c =
+returns-in-Err c =
     let a = c.args in
-    sym (ap (λ (x : Added). clock_laid x a.out.now) (sym c.add.ensures ∙ c.in-OutOfRange.is))
+    ap (λ (n : ℕ). told n a.out.now) c.number.ensures
+    ∙ sym (ap (λ (x : Result Time ℕ). clock_laid x a.out.now) (sym c.add.ensures ∙ c.in-Err.is))

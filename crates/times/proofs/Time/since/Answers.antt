@@ -1,7 +1,7 @@
 -- Where then is not later, its seconds lead by no more than the nanoseconds hold, so every sum fits and the difference is exact.
 use mathlib.Core.Path.{◌∙◌}
 use native.Mathlib.Omega.{arith}
-use Rattle.times.proofs.Sums.{apart, later, not_later, since_zero, since_settled}
+use Rattle.times.proofs.Sums.{apart_from, later, not_later, since_zero, since_settled}
 use Rattle.times.proofs.Time.since.Goals as goal
 
 pub returns-then-is_before : goal.returns-then-is_before
@@ -19,38 +19,38 @@ pub overflow_add-take-2 : goal.overflow_add-take-2
 overflow_add-take-2 c =
     let a = c.args in
     let h = not_later a.self a.then c.is_before.ensures c.if-is_before.false in
-    let k = apart a.self a.then c.borrow-one.result c.borrow-one.ensures in
+    let k = apart_from a.self a.then c.from-one.result c.from-one.ensures in
     omega arith
 
 pub overflow_mul-one : goal.overflow_mul-one
 overflow_mul-one c =
     let a = c.args in
-    let k = apart a.self a.then c.borrow-one.result c.borrow-one.ensures in
+    let k = apart_from a.self a.then c.from-one.result c.from-one.ensures in
     omega arith
 
 pub overflow_add-nanos : goal.overflow_add-nanos
 overflow_add-nanos c =
     let a = c.args in
-    let k = apart a.self a.then c.borrow-one.result c.borrow-one.ensures in
+    let k = apart_from a.self a.then c.from-one.result c.from-one.ensures in
     omega arith
 
 pub overflow_sub-nanos : goal.overflow_sub-nanos
 overflow_sub-nanos c =
     let a = c.args in
-    let k = apart a.self a.then c.borrow-one.result c.borrow-one.ensures in
+    let k = apart_from a.self a.then c.from-one.result c.from-one.ensures in
     k.enough
 
 pub settle-requires : goal.settle-requires
 settle-requires c =
     let a = c.args in
     let h = not_later a.self a.then c.is_before.ensures c.if-is_before.false in
-    let k = apart a.self a.then c.borrow-one.result c.borrow-one.ensures in
+    let k = apart_from a.self a.then c.from-one.result c.from-one.ensures in
     omega arith
 
 pub returns : goal.returns
 returns c =
     let a = c.args in
     let h = not_later a.self a.then c.is_before.ensures c.if-is_before.false in
-    let k = apart a.self a.then c.borrow-one.result c.borrow-one.ensures in
+    let k = apart_from a.self a.then c.from-one.result c.from-one.ensures in
     c.settle.ensures ∙
-    since_settled a.self a.then c.below-up.result c.below.result c.borrow-one.result h c.below-up.ensures c.below.ensures k
+    since_settled a.self a.then c.saturating_sub-up.result c.saturating_sub.result c.from-one.result h c.saturating_sub-up.ensures c.saturating_sub.ensures k

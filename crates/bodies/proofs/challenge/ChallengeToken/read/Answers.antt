@@ -13,4 +13,4 @@ unfolding token_at
 returns c =
     let a = c.args in
     let k : length (part a.src.now (a.at + 8) 256) ≡ 256 = length_part a.src.now (a.at + 8) 256 (omega (arith, c.requires)) in
-    ap₂ token c.read_u64-client_id.ensures (c.copy_bytes.ensures ∙ splice_whole (zeros 256) (part a.src.now (a.at + 8) 256) k)
+    ap₂ token c.read_u64-client_id.ensures (c.copy.ensures ∙ splice_whole (zeros 256) (part a.src.now (a.at + 8) 256) k)

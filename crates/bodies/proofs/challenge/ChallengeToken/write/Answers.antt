@@ -9,4 +9,4 @@ pub returns : goal.returns
 returns c =
     let a = c.args in
     let k : length a.self.user_data ≡ 256 = search rules in
-    challenge_written a.out.now a.at _ _ _ a.self.client_id a.self.user_data c.requires k c.write_u64.ensures c.copy_bytes.ensures c.zero_bytes.ensures
+    challenge_written a.out.now a.at _ _ _ a.self.client_id a.self.user_data c.requires k c.write_u64.ensures c.copy.ensures c.fill.ensures

@@ -1,0 +1,76 @@
+-- Without a window the 257 words stay as they are, and so they are as loading a window from them and storing it again leaves them: such
+-- a call has no window at any step, and storing what was loaded changes nothing.
+use mathlib.Core.Path.{◌≡◌, refl, sym, ap}
+use mathlib.Core.Bool.{Bool, false, not}
+use Prim.Native.Nat.{ℕ, ◌+◌, ◌≤◌}
+use mathlib.Core.List.{List}
+use lib.ListN.{length}
+use lib.Dec.{eqb, ltb}
+use Rattle.std.specs.Prelude.{Option, Some, None, Result, Ok, Err}
+use Rattle.serialize.specs.Choice.{pick}
+use Rattle.serialize.proofs.Choice.{by_test}
+use Rattle.replay_protection.specs.Stored.{window_at, put_window}
+use Rattle.replay_protection.specs.Ours.{width}
+use Rattle.replay_protection.proofs.Stored.{put_loaded}
+use Rattle.bodies.specs.declared.PacketType.{PacketType}
+use Rattle.bodies.specs.Kinds.{windowed, is_request}
+use Rattle.asks.specs.Asks.{unlike}
+use Rattle.decode.specs.declared.Opening.{Opening}
+use Rattle.decode.specs.declared.Start.{Start}
+use Rattle.decode.specs.Decodes.{type_at, start_at, guard_refusal, guard_accepts, decode_at, by_start, decode_sealed, decode_of, by_kind, decode, answer_opened, answer_open}
+use Rattle.calls.specs.Desk.{kept_on, opening_of}
+use Rattle.calls.specs.Packets.{key_of, window_left, decode_call, answer_open_call}
+
+-- ---- no window comes of a call that had none
+
+module _ (d : List ℕ) (kind : PacketType) (protocol : ℕ) where
+  past_head : (key : List ℕ) (sequence start : ℕ) → (decode_at d kind protocol key sequence start None).guard ≡ None
+  unfolding decode_at pick
+  past_head key sequence start =
+      by_test (not (eqb (guard_refusal kind None sequence) 0))
+      (λ e. simp e)
+      (λ e. by_test (ltb (length d) (start + 16)) (λ f. simp (e, f)) (λ f. simp (e, f)))
+
+  by_head : (key : List ℕ) (s : Result Start ℕ) → (by_start d kind protocol key None s).guard ≡ None
+  by_head key (Err n) = refl
+  by_head key (Ok head) = past_head key head.sequence head.start
+
+  sealed : (key : Option (List ℕ)) → (decode_sealed d kind protocol key None).guard ≡ None
+  unfolding decode_sealed
+  sealed (Some key) = by_head key (start_at d)
+  sealed None = refl
+
+  of_type : (key : Option (List ℕ)) → (decode_of d kind protocol key None).guard ≡ None
+  unfolding decode_of pick
+  of_type key = by_test (is_request kind) (λ e. simp e) (λ e. simp e (sealed key))
+
+typed : (d : List ℕ) (protocol : ℕ) (key : Option (List ℕ)) (t : Result PacketType ℕ) → (by_kind d protocol key None t).guard ≡ None
+typed d protocol key (Err n) = refl
+typed d protocol key (Ok kind) = of_type d kind protocol key
+
+pub decode_unguarded : (d : List ℕ) (protocol : ℕ) (key : Option (List ℕ)) → (decode d protocol key None).guard ≡ None
+unfolding decode
+decode_unguarded d protocol key = typed d protocol key (type_at d)
+
+opened : (kind : PacketType) (sequence start len : ℕ) (d : List ℕ) (granted : Bool) → (answer_opened kind sequence start len d None granted).guard ≡ None
+unfolding answer_opened guard_accepts pick
+opened kind sequence start len d granted =
+    by_test (unlike start 16 len (length d))
+    (λ u. simp u)
+    (λ u. by_test granted (λ g. by_test (windowed kind) (λ w. simp (u, g, w)) (λ w. simp (u, g, w))) (λ g. simp (u, g)))
+
+pub answer_unguarded : (opening : Option Opening) (d : List ℕ) (granted : Bool) → (answer_open opening d None granted).guard ≡ None
+answer_unguarded None d granted = refl
+answer_unguarded (Some ask) d granted = opened ask.kind ask.sequence ask.start ask.len d granted
+
+-- ---- so the words that were lent are as they were, which is what a window loaded from them and stored again makes of them
+
+module _ (words : List ℕ) where
+  pub decode_words : (d : List ℕ) (protocol : ℕ) (keyed : Bool) (key : List ℕ) → (decode_call d protocol keyed key false words).lent ≡ words
+  decode_words d protocol keyed key = ap (window_left words) (decode_unguarded d protocol (key_of keyed key))
+
+  pub answer_words : (desk d : List ℕ) (granted : Bool) → (answer_open_call desk d false words granted).lent ≡ words
+  answer_words desk d granted = ap (window_left words) (answer_unguarded (opening_of (kept_on desk)) d granted)
+
+  pub words_loaded : 0 + 1 + width ≤ length words → words ≡ put_window words 0 (window_at width words 0)
+  words_loaded enough = sym (put_loaded width words 0 enough)

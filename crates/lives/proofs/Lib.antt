@@ -1,2 +1,0 @@
-pub mod Spaced
-pub mod Hex

@@ -1,9 +1,0 @@
--- The counts passed are thirteen at most.
-use Rattle.std.proofs.Common.{◌-◌, ◌≤◌}
-use Rattle.lives.proofs.report.lines.Given as goal
-
-abbrev pub invariant-loop-i : goal.invariant-loop-i
-invariant-loop-i l = l.i ≤ 13
-
-abbrev pub decreases-loop-i : goal.decreases-loop-i
-decreases-loop-i l = 13 - l.i

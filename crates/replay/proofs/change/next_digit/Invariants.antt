@@ -1,9 +1,0 @@
--- What is left of the slice falls.
-use Rattle.std.proofs.Common.{◌-◌, length}
-use Rattle.replay.proofs.change.next_digit.Given as goal
-
-abbrev pub invariant-loop-i : goal.invariant-loop-i
-invariant-loop-i l = Unit {0}
-
-abbrev pub decreases-loop-i : goal.decreases-loop-i
-decreases-loop-i l = length l.right - l.i

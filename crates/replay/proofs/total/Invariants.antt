@@ -1,9 +1,0 @@
--- Eleven of the counts.
-use Rattle.std.proofs.Common.{◌-◌, ◌≤◌}
-use Rattle.replay.proofs.total.Given as goal
-
-abbrev pub invariant-loop-i : goal.invariant-loop-i
-invariant-loop-i l = l.i ≤ 11
-
-abbrev pub decreases-loop-i : goal.decreases-loop-i
-decreases-loop-i l = 11 - l.i

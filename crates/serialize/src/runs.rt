@@ -1,0 +1,21 @@
+// Runs of any elements at a place of a slice.
+ghost use Rattle.std.specs.Prelude.{◌≡◌, ◌+◌, ◌≤◌, length, replicate};
+ghost use Rattle.serialize.specs.Runs.{part, splice};
+
+// n elements of src from index from, into dst from index at.
+pub fn copy<T: Copy>(dst: &mut [T], at: usize, src: &[T], from: usize, n: usize)
+    requires { (at + n ≤ length dst.old) × (from + n ≤ length src.now) }
+    ensures { dst.new ≡ splice dst.old at (part src.now from n) }
+{
+    dst[at..at + n].copy_from_slice(&src[from..from + n]);
+}
+
+// n times the value, into dst from index at.
+pub fn fill<T: Copy>(dst: &mut [T], at: usize, n: usize, value: T)
+    requires { at + n ≤ length dst.old }
+    ensures { dst.new ≡ splice dst.old at (replicate n value) }
+{
+    for x in &mut dst[at..at + n] {
+        *x = value;
+    }
+}

@@ -1,8 +1,0 @@
--- The record is put together again, with one part of it new.
-use Rattle.server.specs.State.{with_clock}
-use mathlib.Core.Path.{refl}
-use Rattle.server.proofs.rebuild.with_clock.Goals as goal
-
-pub returns : goal.returns
-unfolding with_clock
-returns c = refl

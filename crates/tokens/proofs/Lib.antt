@@ -1,0 +1,3 @@
+pub mod Spaced
+pub mod Hex
+pub mod Determined
