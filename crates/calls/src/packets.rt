@@ -93,7 +93,6 @@ pub fn pump_decode(
         guard_of(guarded, window),
     );
     let ask = decoded.ask;
-    put_back(window, decoded.guard);
     *words = desk::decoded_desk(decoded);
     *told = desk::told_of(ask);
 }

@@ -80,5 +80,9 @@ pub fn count_used(t: &[u64], n: usize) -> usize
     requires { Shaped t.now n }
     ensures { result ≡ used_count t.now n }
 {
-    t[..n].iter().filter(|mark| **mark != 0).count()
+    let mut count: usize = 0;
+    for mark in &t[..n] {
+        count += usize::from(*mark != 0);
+    }
+    count
 }

@@ -7,7 +7,9 @@ pub fn copy<T: Copy>(dst: &mut [T], at: usize, src: &[T], from: usize, n: usize)
     requires { (at + n ≤ length dst.old) × (from + n ≤ length src.now) }
     ensures { dst.new ≡ splice dst.old at (part src.now from n) }
 {
-    dst[at..at + n].copy_from_slice(&src[from..from + n]);
+    for i in 0..n {
+        dst[at + i] = src[from + i];
+    }
 }
 
 // n times the value, into dst from index at.
