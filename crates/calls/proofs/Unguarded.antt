@@ -6,7 +6,7 @@ use Prim.Native.Nat.{ℕ, ◌+◌, ◌≤◌}
 use mathlib.Core.List.{List}
 use lib.ListN.{length}
 use lib.Dec.{eqb, ltb}
-use Rattle.std.specs.Prelude.{Option, Some, None, Result, Ok, Err}
+use Rattle.std.specs.Prelude.{◌&&◌, is_some, Option, Some, None, Result, Ok, Err}
 use Rattle.serialize.specs.Choice.{pick}
 use Rattle.serialize.proofs.Choice.{by_test}
 use Rattle.replay_protection.specs.declared.ReplayProtection.{ReplayProtection}
@@ -20,8 +20,8 @@ use Rattle.decode.specs.declared.Decoded.{Decoded}
 use Rattle.decode.specs.declared.Opening.{Opening}
 use Rattle.decode.specs.declared.Start.{Start}
 use Rattle.decode.specs.Decodes.{type_at, start_at, guard_refusal, guard_accepts, decode_at, by_start, decode_sealed, decode_of, by_kind, decode, answer_opened, answer_open}
-use Rattle.calls.specs.Desk.{kept_on, opening_of}
-use Rattle.calls.specs.Packets.{key_of, guard_of, window_left, decode_call, answer_open_call}
+use Rattle.calls.specs.Desk.{kept_on, decoded_desk, opening_of}
+use Rattle.calls.specs.Packets.{Placed, placed, key_of, guard_of, window_left, decode_call, answer_open_call}
 
 -- ---- decode leaves the window as it was lent, and where there was none there is none
 
@@ -92,3 +92,24 @@ module _ (words : List ℕ) where
   decode_left enough d protocol key guarded guard r g p =
       loaded_left enough guarded
       ∙ ap (window_left words) (sym (ap (λ (x : Decoded). x.guard) p ∙ decode_keeps d protocol key guard ∙ g))
+
+  -- nor has answer_open, but for a yes to an open ask: else it needs no window
+  abbrev answered : Option Opening → List ℕ → Option ReplayProtection → Bool → Placed
+  answered opening d guard granted =
+      placed (decoded_desk (answer_open opening d guard granted)) (window_left words (answer_open opening d guard granted).guard)
+
+  said_no : 0 + 1 + width ≤ length words → (ask : Opening) (d : List ℕ)
+      → answered (Some ask) d None false ≡ answered (Some ask) d (guard_of true words) false
+  unfolding answer_opened pick
+  said_no enough ask d =
+      by_test (unlike ask.start 16 ask.len (length d))
+      (λ u. simp u (ap (placed _) (words_loaded enough)))
+      (λ u. simp u (ap (placed _) (words_loaded enough)))
+
+  pub answer_left : 0 + 1 + width ≤ length words → (opening : Option Opening) (d : List ℕ) (guarded granted : Bool)
+      → answered opening d (guard_of (guarded && (granted && is_some opening)) words) granted ≡ answered opening d (guard_of guarded words) granted
+  answer_left enough opening d false granted = refl
+  answer_left enough None d true true = ap (placed (decoded_desk (answer_open None d None true))) (words_loaded enough)
+  answer_left enough None d true false = ap (placed (decoded_desk (answer_open None d None false))) (words_loaded enough)
+  answer_left enough (Some ask) d true true = refl
+  answer_left enough (Some ask) d true false = said_no enough ask d
