@@ -1,10 +1,11 @@
 // Packets: encode and decode, and the host's answers. What is kept open between a call and its answer lies on the desk.
-ghost use Rattle.std.specs.Prelude.{◌≡◌};
+ghost use Rattle.std.specs.Prelude.{◌≡◌, ◌&&◌, is_some};
 ghost use Rattle.calls.specs.Heads.{written};
 ghost use Rattle.calls.specs.Packets.{handed, placed, encode_call, answer_seal_call, guard_of, decode_call, answer_open_call, window_left, field_of, field_call};
 
 use crate::desk;
 use bodies::PacketType;
+use decode::Opening;
 use replay_protection::ReplayProtection;
 
 // The packet of a type and two numbers, with its bytes beside it, into out: 2 for a type over 6.
@@ -73,7 +74,7 @@ fn put_back(window: &mut [u64; 257], guard: Option<ReplayProtection>)
     }
 }
 
-// A datagram, with the key and the window of its sender, if they are there.
+// A datagram, with the key and the window of its sender, if they are there. Before the host's answer no window moves, so none is stored.
 pub fn pump_decode(
     datagram: &[u8],
     protocol_id: u64,
@@ -93,9 +94,15 @@ pub fn pump_decode(
         guard_of(guarded, window),
     );
     let ask = decoded.ask;
-    put_back(window, decoded.guard);
     *words = desk::decoded_desk(decoded);
     *told = desk::told_of(ask);
+}
+
+// Only a yes to an open ask can move the window: for every other answer it stays where it lies.
+fn is_moving(guarded: bool, granted: bool, opening: Option<Opening>) -> bool
+    ensures { result ≡ guarded && (granted && is_some opening) }
+{
+    guarded && granted && opening.is_some()
 }
 
 // The host's answer to an ask to open.
@@ -109,6 +116,7 @@ pub fn pump_answer_open(
     ensures { placed words.new window.new ≡ answer_open_call words.old datagram.now guarded window.old granted }
 {
     let opening = desk::opening_of(desk::kept_on(words));
+    let guarded = is_moving(guarded, granted, opening);
     let decoded = decode::answer_open(opening, datagram, guard_of(guarded, window), granted);
     put_back(window, decoded.guard);
     *words = desk::decoded_desk(decoded);

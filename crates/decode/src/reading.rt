@@ -1,7 +1,8 @@
 // Decoding: what a datagram's head says, the ask to open it, and its body after the host's yes.
 ghost use Rattle.std.specs.Prelude.{◌≡◌, ◌≤◌, length};
 ghost use Rattle.refusal.specs.Verdicts.{verdict};
-ghost use Rattle.decode.specs.Decodes.{ended, type_at, start_at, window_refusal, guard_refusal, guard_accepts, read_opened, decode_at, by_start, decode_sealed, decode_of, decode, answer_opened, answer_open};
+ghost use Rattle.asks.specs.Asks.{no_ask};
+ghost use Rattle.decode.specs.Decodes.{decoded_as, ended, type_at, start_at, window_refusal, guard_refusal, guard_accepts, read_opened, decode_at, by_start, decode_sealed, decode_of, decode, answer_opened, answer_open};
 
 use crate::{Decoded, Decoding, Opened, Opening, Start};
 use asks::{NETCODE_KEY_BYTES, NETCODE_MAC_BYTES, Work};
@@ -67,19 +68,14 @@ pub fn guard_refusal(
 }
 
 // The window with the sequence accepted, if the type is windowed and there is one.
-fn guard_accepts(
-    kind: PacketType,
-    guard: Option<ReplayProtection>,
-    sequence: u64,
-) -> Option<ReplayProtection>
-    ensures { result ≡ guard_accepts kind guard sequence }
+fn guard_accepts(kind: PacketType, guard: &mut Option<ReplayProtection>, sequence: u64)
+    ensures { guard.new ≡ guard_accepts kind guard.old sequence }
 {
     if kind.apply_replay_protection() {
         if let Some(window) = guard {
-            return Some(window.advance_sequence(sequence));
+            window.advance_in_place(sequence);
         }
     }
-    guard
 }
 
 // The packet whose opened body stands in the datagram from start to end: 9 where it is short.
@@ -233,34 +229,30 @@ pub fn decode(
     }
 }
 
+// What the answer to the open ask comes to, and the ask where it stays open.
 fn answer_opened(
     opening: Opening,
     datagram: &[u8],
-    guard: Option<ReplayProtection>,
+    guard: &mut Option<ReplayProtection>,
     granted: bool,
-) -> Decoded
-    ensures { result ≡ answer_opened opening.kind opening.sequence opening.start opening.len datagram.now guard granted }
+) -> (Decoding, Option<Opening>)
+    ensures { decoded_as result.0 no_ask result.1 guard.new ≡ answer_opened opening.kind opening.sequence opening.start opening.len datagram.now guard.old granted }
 {
     let kind = opening.kind;
     let sequence = opening.sequence;
     let start = opening.start;
     let len = opening.len;
     if asks::unlike(start, NETCODE_MAC_BYTES, len, datagram.len()) {
-        return Decoded {
-            answer: Decoding::Refused(Refusal(Why::AnswerUnfit)),
-            ask: asks::no_ask(),
-            opening: Some(opening),
-            guard,
-        };
+        return (Decoding::Refused(Refusal(Why::AnswerUnfit)), Some(opening));
     }
     if granted {
-        let accepted = guard_accepts(kind, guard, sequence);
-        return ended(
+        guard_accepts(kind, guard, sequence);
+        return (
             read_opened(kind, sequence, datagram, start, len - NETCODE_MAC_BYTES),
-            accepted,
+            None,
         );
     }
-    ended(Decoding::Refused(Refusal(Why::NotOpened)), guard)
+    (Decoding::Refused(Refusal(Why::NotOpened)), None)
 }
 
 // The host's answer to the ask that is open: 17 where none is. The window moves after a yes alone, and before the body is read.
@@ -272,8 +264,15 @@ pub fn answer_open(
 ) -> Decoded
     ensures { result ≡ answer_open opening datagram.now guard granted }
 {
-    match opening {
-        Some(ask) => answer_opened(ask, datagram, guard, granted),
-        None => ended(Decoding::Refused(Refusal(Why::NoAsk)), guard),
+    let mut left = guard;
+    let (answer, kept) = match opening {
+        Some(ask) => answer_opened(ask, datagram, &mut left, granted),
+        None => (Decoding::Refused(Refusal(Why::NoAsk)), None),
+    };
+    Decoded {
+        answer,
+        ask: asks::no_ask(),
+        opening: kept,
+        guard: left,
     }
 }

@@ -9,6 +9,8 @@ use std::fmt::Write;
 // More than any line expects.
 pub(crate) const ROOM: usize = 4096;
 
+const DIGITS: [u8; 16] = *b"0123456789abcdef";
+
 // The first `len` bytes are said.
 #[derive(Drop)]
 pub(crate) struct Said {
@@ -89,7 +91,8 @@ impl Said {
         }
         let _ = write!(self, " ");
         for b in s {
-            let _ = write!(self, "{b:02x}");
+            self.put(DIGITS[(*b / 16) as usize]);
+            self.put(DIGITS[(*b % 16) as usize]);
         }
     }
 

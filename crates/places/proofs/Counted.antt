@@ -12,6 +12,7 @@ use native.Mathlib.Omega.{arith}
 use mathlib.Core.List.{List}
 use lib.ListN.{length, get_or}
 use lib.Dec.{eqb}
+use mir.Val.{bool_byte}
 use borrow.Author.Tests.{eq-eqb, ne_eqb, eqb-true, eqb-false}
 use Rattle.serialize.specs.Choice.{pick}
 use Rattle.serialize.proofs.Choice.{by_test}
@@ -56,7 +57,16 @@ count_marks t (suc n) h =
     ∙ more
     ∙ ap₂ ◌+◌ (count_marks t n (omega arith)) (one_by_test (eqb (get_or t n 0) 0))
 
-one_at_most : (m : ℕ) → count_one m ≤ 1
+bit_by_test : (b : Bool) → bool_byte (not b) ≡ pick b 0 1
+unfolding pick
+bit_by_test true = refl
+bit_by_test false = refl
+
+pub bit_counts : (m : ℕ) → bool_byte (not (eqb m 0)) ≡ count_one m
+unfolding count_one
+bit_counts m = bit_by_test (eqb m 0)
+
+pub one_at_most : (m : ℕ) → count_one m ≤ 1
 one_at_most m = by_test (eqb m 0) (λ e. omega (arith, empty_counts m (eqb-true m 0 e))) (λ e. omega (arith, used_counts m (eqb-false m 0 e)))
 
 pub count_most : (t : List ℕ) (n : ℕ) → used_count t n ≤ n

@@ -53,13 +53,8 @@ fn list_used<F: Fn(usize) -> u64>(
 pub fn clients_id(server: NetcodeServer, slots: &[u64], list: &mut [u64]) -> Reply
     ensures { told result list.new ≡ listed_into server slots.now true list.old }
 {
-    let set = server.set;
-    list_used(
-        server,
-        slots,
-        |i| places::client_id(slots, set.slots, i),
-        list,
-    )
+    let n = server.set.slots;
+    list_used(server, slots, move |i| places::client_id(slots, n, i), list)
 }
 
 // The slots of the connected.

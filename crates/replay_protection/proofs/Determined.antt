@@ -6,6 +6,7 @@ use Rattle.replay_protection.proofs.ReplayProtection.new.Reads as new
 use Rattle.replay_protection.proofs.ReplayProtection.already_received.Reads as already-received
 use Rattle.replay_protection.proofs.ReplayProtection.refusal.Reads as refusal
 use Rattle.replay_protection.proofs.ReplayProtection.advance_sequence.Reads as advance-sequence
+use Rattle.replay_protection.proofs.ReplayProtection.advance_in_place.Reads as advance-in-place
 use Rattle.replay_protection.proofs.table.load_window.Reads as load-window
 use Rattle.replay_protection.proofs.table.store_window.Reads as store-window
 use Rattle.replay_protection.proofs.table.refusal_at.Reads as refusal-at
@@ -38,3 +39,8 @@ store_window_determined κs a x y e f p q = coincide p q
 
 pub advance_at_determined : (κs : _) (a : _) (x y : _) (e f : _) → advance-at.Post κs a x e → advance-at.Post κs a y f → e.0.now ≡ f.0.now
 advance_at_determined κs a x y e f p q = coincide p q
+
+-- ---- and the window, where it lies
+
+pub advance_in_place_determined : (κs : _) (a : _) (x y : _) (e f : _) → advance-in-place.Post κs a x e → advance-in-place.Post κs a y f → e.0.now ≡ f.0.now
+advance_in_place_determined κs a x y e f p q = coincide p q

@@ -108,4 +108,18 @@ impl ReplayProtection {
         self.received_packet[place] = sequence;
         self
     }
+
+    // `advance_sequence` where the window lies, as the one that is handed on by value costs copies of all of it: two words are read and written.
+    pub fn advance_in_place(&mut self, sequence: u64)
+        ensures { self.new ≡ protection (arrive width (window_of self.old) sequence) }
+    {
+        let at = index(sequence);
+        let most = self.most_recent_sequence;
+        let held = self.received_packet[at];
+        if refusal_by(most, held, sequence).is_err() {
+            return;
+        }
+        self.most_recent_sequence = most.max(sequence);
+        self.received_packet[at] = sequence;
+    }
 }

@@ -157,11 +157,11 @@ sum_bytes bs (suc k) h =
     ∙ sym (of_le_append (take (suc k) bs) (b ∷ []))
     ∙ ap of_le (sym (take-suc bs (suc k) 0 h))
 
--- chunk is the first k + 1 bytes from at on, and v the number that the library makes of it
-pub bytes_read : (l : List ℕ) (at k : ℕ) (chunk : List ℕ) (v : ℕ) → at + suc k ≤ length l → chunk ≡ take (suc k) (take (length l - at) (drop at l))
+-- chunk is the first k + 1 bytes of the m from at on, and v the number that the library makes of it
+pub bytes_read : (l : List ℕ) (at k m : ℕ) (chunk : List ℕ) (v : ℕ) → at + suc k ≤ length l → suc k ≤ m → chunk ≡ take (suc k) (take m (drop at l))
     → v ≡ sum_through (λ i. byte_worth i (slice_index chunk i)) k → v ≡ of_le (part l at (suc k))
-bytes_read l at k chunk v h e q =
-    let p : chunk ≡ part l at (suc k) = e ∙ take-take (suc k) (length l - at) (drop at l) (omega arith) in
+bytes_read l at k m chunk v h w e q =
+    let p : chunk ≡ part l at (suc k) = e ∙ take-take (suc k) m (drop at l) w in
     let n : length chunk ≡ suc k = ap length p ∙ length_part l at (suc k) h in
     q ∙ sum_bytes chunk k (omega arith) ∙ ap (λ (j : ℕ). of_le (take j chunk)) (sym n) ∙ ap of_le (take_all (length chunk) chunk (omega arith) ∙ p)
 

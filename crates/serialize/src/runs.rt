@@ -2,12 +2,15 @@
 ghost use Rattle.std.specs.Prelude.{◌≡◌, ◌+◌, ◌≤◌, length, replicate};
 ghost use Rattle.serialize.specs.Runs.{part, splice};
 
-// n elements of src from index from, into dst from index at.
+// n elements of src from index from, into dst from index at. By places: the library's `copy_from_slice` is a call of `memmove`, which
+// `libcalls.a` did not need from outside, and moves a short run of known length byte by byte.
 pub fn copy<T: Copy>(dst: &mut [T], at: usize, src: &[T], from: usize, n: usize)
     requires { (at + n ≤ length dst.old) × (from + n ≤ length src.now) }
     ensures { dst.new ≡ splice dst.old at (part src.now from n) }
 {
-    dst[at..at + n].copy_from_slice(&src[from..from + n]);
+    for i in 0..n {
+        dst[at + i] = src[from + i];
+    }
 }
 
 // n times the value, into dst from index at.

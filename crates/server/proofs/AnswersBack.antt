@@ -7,6 +7,9 @@ use lib.ListN.{get_or}
 use lib.Dec.{eqb}
 use Rattle.std.specs.Prelude.{Option, None, Some, zero, suc}
 use Rattle.serialize.specs.Choice.{pick}
+use Rattle.refusal.specs.declared.Why.{Why}
+use Rattle.refusal.specs.Numbers.{number_of as number_of_why}
+use Rattle.refusal.specs.Back.{number_in_table}
 use Rattle.addresses.specs.declared.Address.{Address}
 use Rattle.addresses.specs.Addresses.{of_words}
 use Rattle.addresses.proofs.Meaning.{words_read_back}
@@ -57,6 +60,10 @@ Formed (PacketToSend addr end) = Fits addr
 Formed (Payload id start end) = Unit {0}
 Formed (ClientConnected id slot addr end) = Fits addr
 Formed (ClientDisconnected id addr end refusal) = Ended addr refusal
+
+-- which every refusal of the code's type has
+pub numbered_always : (w : Why) → Numbered (Some (number_of_why w))
+numbered_always w = omega (arith, (number_in_table w).0)
 
 numbered_back : (refusal : Option ℕ) → Numbered refusal → refusal_in (told refusal) ≡ refusal
 unfolding refusal_in

@@ -1,9 +1,9 @@
 -- An ask is open, or none is.
-use mathlib.Core.Path.{◌∙◌}
+use Rattle.decode.proofs.reading.answer_open.Goals.{in-Some, in-None}
 use Rattle.decode.proofs.reading.answer_open.Goals as goal
 
-pub returns-in-None : goal.returns-in-None
-returns-in-None c = c.ended.ensures ∙ simp c.in-None.is
-
-pub returns-in-Some : goal.returns-in-Some
-returns-in-Some c = c.answer_opened.ensures ∙ simp c.in-Some.is
+pub returns : goal.returns
+returns c = elim c.match-opening.branch [
+  | in-Some w ↦ simp (c.no_ask.ensures, w.answer-is, w.left-is, w.in-Some.is) w.answer_opened.ensures
+  | in-None w ↦ simp (c.no_ask.ensures, w.answer-is, w.left-is, w.in-None.is)
+]

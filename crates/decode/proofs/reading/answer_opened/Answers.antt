@@ -9,7 +9,7 @@ use Rattle.decode.proofs.reading.answer_opened.Goals as goal
 
 pub returns-then-unlike : goal.returns-then-unlike
 unfolding answer_opened pick
-returns-then-unlike c = simp (c.no_ask.ensures, told c.unlike.ensures c.if-unlike.true)
+returns-then-unlike c = simp (told c.unlike.ensures c.if-unlike.true)
 
 pub overflow_sub-len : goal.overflow_sub-len
 overflow_sub-len c =
@@ -25,8 +25,8 @@ read_opened-requires c =
 
 pub returns-then-granted : goal.returns-then-granted
 unfolding answer_opened pick
-returns-then-granted c = c.ended.ensures ∙ ap₂ ended c.read_opened.ensures c.guard_accepts-accepted.ensures ∙ simp (told c.unlike.ensures c.if-unlike.false, c.if-granted.true)
+returns-then-granted c = ap₂ ended c.read_opened.ensures c.guard_accepts.ensures ∙ simp (told c.unlike.ensures c.if-unlike.false, c.if-granted.true)
 
 pub returns : goal.returns
 unfolding answer_opened pick
-returns c = c.ended-2.ensures ∙ simp (told c.unlike.ensures c.if-unlike.false, c.if-granted.false)
+returns c = simp (told c.unlike.ensures c.if-unlike.false, c.if-granted.false)

@@ -6,7 +6,7 @@ use Rattle.decode.proofs.reading.guard_accepts.Goals as goal
 
 pub returns-in-Some : goal.returns-in-Some
 unfolding guard_accepts pick
-returns-in-Some c = simp (c.advance_sequence.ensures, told c.apply_replay_protection.ensures c.if-apply_replay_protection.true, c.in-Some.is)
+returns-in-Some c = simp (c.advance_in_place.ensures, told c.apply_replay_protection.ensures c.if-apply_replay_protection.true, c.in-Some.is)
 
 pub returns-in_default : goal.returns-in_default
 unfolding guard_accepts pick
